@@ -1,0 +1,7 @@
+-- The definitions that the tests compute, opened by one name. Assumes nothing.
+use Rattle.aes.specs.Field.{product, remainder, _·_, squares, inverse}
+use Rattle.aes.specs.Fips197.{bit, affineBit, affineBits, affine, powerOfX, rcon}
+
+unfoldable pub computes : Unit {0}
+unfolding product remainder _·_ squares inverse bit affineBit affineBits affine powerOfX rcon
+computes = tt

@@ -1,0 +1,71 @@
+-- `aes::encrypt_with` meets its contract. After i steps of the loop the key and the state are those after i rounds. Assumes nothing.
+use mathlib.Core.Path.{_≡_}
+use Prim.Native.Nat.{_-_, _≤_}
+use native.Mathlib.Omega.{arith}
+use Rattle.aes.specs.Layout.{bytesOf}
+use Rattle.aes.proofs.Rounds.{Reached, start, next, last}
+use borrow.Author.Needs.{needs}
+use Rattle.aes.proofs.encrypt_with.Statement.{statement}
+use Rattle.aes.proofs.encrypt_with.Tie as tie
+
+abbrev Inv-loop : tie.InvT-loop
+Inv-loop table k₀ s₀ i₀ k s i = Reached (bytesOf k₀) (bytesOf s₀) (bytesOf k) (bytesOf s) i × (i ≤ 9)
+
+abbrev μ-loop : tie.MeasureT-loop
+μ-loop table k₀ s₀ i₀ k s i = 9 - i
+
+load-requires : tie.Need-load-requires Inv-loop μ-loop
+load-requires c κs = search needs
+
+begin-requires : tie.Need-begin-requires Inv-loop μ-loop
+begin-requires c κs = search needs
+
+loop-holds : tie.Need-loop-holds Inv-loop μ-loop
+loop-holds c = (start _ _, search needs)
+
+next-round-key-requires : tie.Need-next-round-key-requires Inv-loop μ-loop
+next-round-key-requires c κs = search needs
+
+round-requires : tie.Need-round-requires Inv-loop μ-loop
+round-requires c κs = search needs
+
+add-i : tie.Need-add-i Inv-loop μ-loop
+add-i c = search needs
+
+loop-less : tie.Need-loop-less Inv-loop μ-loop
+loop-less c = search needs
+
+loop-again : tie.Need-loop-again Inv-loop μ-loop
+loop-again c = (next (c .before .before .before .loop .inv .0) (c .before .next-round-key .ensures) (c .round .ensures), search needs)
+
+next-round-key-requires-2 : tie.Need-next-round-key-requires-2 Inv-loop μ-loop
+next-round-key-requires-2 c κs = search needs
+
+last-round-requires : tie.Need-last-round-requires Inv-loop μ-loop
+last-round-requires c κs = search needs
+
+returns : tie.Need-returns Inv-loop μ-loop
+returns c =
+    let k = c .before in
+    let l = k .before .before in
+    let b = l .before in
+    let nine : l .loop .i ≡ 9 = omega arith in
+    last _ (b .before .load .ensures) (b .begin .ensures) (l .loop .inv .0) nine (k .next-round-key2 .ensures) (c .last-round .ensures)
+
+pub encrypt-with-spec : {M : Type 1} → statement M
+encrypt-with-spec =
+    tie.close
+    (tie.spec
+    Inv-loop
+    μ-loop
+    load-requires
+    begin-requires
+    loop-holds
+    next-round-key-requires
+    round-requires
+    add-i
+    loop-less
+    loop-again
+    next-round-key-requires-2
+    last-round-requires
+    returns)

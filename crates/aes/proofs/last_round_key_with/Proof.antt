@@ -1,0 +1,59 @@
+-- `aes::last_round_key_with` meets its contract. After n steps of the loop the key is the round key of round n. Assumes nothing.
+use mathlib.Core.Path.{_≡_, refl, ap₂, _∙_}
+use Prim.Native.Nat.{_-_, _≤_}
+use native.Mathlib.Omega.{arith}
+use Rattle.aes.specs.Layout.{bytesOf}
+use Rattle.aes.specs.Fips197.{roundKey}
+use Rattle.aes.proofs.Rounds.{next-key}
+use borrow.Author.Needs.{needs}
+use Rattle.aes.proofs.last_round_key_with.Statement.{statement}
+use Rattle.aes.proofs.last_round_key_with.Tie as tie
+
+abbrev Inv-loop : tie.InvT-loop
+Inv-loop table k₀ n₀ k n = (bytesOf k ≡ roundKey (bytesOf k₀) n) × (n ≤ 10)
+
+abbrev μ-loop : tie.MeasureT-loop
+μ-loop table k₀ n₀ k n = 10 - n
+
+load-requires : tie.Need-load-requires Inv-loop μ-loop
+load-requires c κs = search needs
+
+loop-holds : tie.Need-loop-holds Inv-loop μ-loop
+unfolding roundKey
+loop-holds c = (refl, search needs)
+
+next-round-key-requires : tie.Need-next-round-key-requires Inv-loop μ-loop
+next-round-key-requires c κs = search needs
+
+add-n : tie.Need-add-n Inv-loop μ-loop
+add-n c = search needs
+
+loop-less : tie.Need-loop-less Inv-loop μ-loop
+loop-less c = search needs
+
+loop-again : tie.Need-loop-again Inv-loop μ-loop
+loop-again c = (next-key _ _ (c .before .before .loop .inv .0) (c .next-round-key .ensures), search needs)
+
+store-requires : tie.Need-store-requires Inv-loop μ-loop
+store-requires c κs = search needs
+
+returns : tie.Need-returns Inv-loop μ-loop
+returns c =
+    let l = c .before .before in
+    let ten : l .loop .n ≡ 10 = omega arith in
+    c .store .ensures ∙ l .loop .inv .0 ∙ ap₂ roundKey (l .before .load .ensures) ten
+
+pub last-round-key-with-spec : {M : Type 1} → statement M
+last-round-key-with-spec =
+    tie.close
+    (tie.spec
+    Inv-loop
+    μ-loop
+    load-requires
+    loop-holds
+    next-round-key-requires
+    add-n
+    loop-less
+    loop-again
+    store-requires
+    returns)

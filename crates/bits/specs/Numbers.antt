@@ -1,0 +1,30 @@
+-- Bytes, and numbers as bytes. A byte is a number below 256. Assumes nothing.
+use Prim.Native.Nat.{ℕ, zero, suc, _+_, _*_, _/_, _%_, _^_, _<_}
+use mathlib.Core.Path.{_≡_}
+use mathlib.Core.List.{List, [], _∷_}
+use lib.ListN.{length, getD}
+
+-- s is n bytes
+pub record Bytes (n : ℕ) (s : List ℕ) : Type 0 where
+  pub size : length s ≡ n
+  pub byte : (i : ℕ) → getD s i 0 < 256
+
+-- x in n bytes, least significant first, kept to as many bits as they have
+unfoldable pub little : ℕ → ℕ → List ℕ
+little zero x = []
+little (suc n) x = x % 256 ∷ little n (x / 256)
+
+-- the number that bytes are, least significant first
+unfoldable pub fromLittle : List ℕ → ℕ
+fromLittle [] = 0
+fromLittle (b ∷ bs) = b + 256 * fromLittle bs
+
+-- x in n bytes, most significant first, kept to as many bits as they have
+unfoldable pub big : ℕ → ℕ → List ℕ
+big zero x = []
+big (suc n) x = x / 256 ^ n % 256 ∷ big n x
+
+-- the number that bytes are, most significant first
+unfoldable pub fromBig : List ℕ → ℕ
+fromBig [] = 0
+fromBig (b ∷ bs) = b * 256 ^ length bs + fromBig bs

@@ -1,0 +1,18 @@
+-- Bytes at a place of a list: read there, and put there. Assumes nothing.
+use Prim.Native.Nat.{ℕ, _+_}
+use mathlib.Core.Bool.{cond}
+use mathlib.Core.List.{List, _++_}
+use lib.ListN.{length, take, drop, replicate}
+use lib.Dec.{leb}
+
+-- the n bytes from place `at` on; zeros where the list does not hold them all
+unfoldable pub window : ℕ → ℕ → List ℕ → List ℕ
+window n at l = cond (leb (at + n) (length l)) (take n (drop at l)) (replicate n 0)
+
+-- the list with the bytes vs from place `at` on; the list itself where they do not fit
+unfoldable pub putAt : List ℕ → ℕ → List ℕ → List ℕ
+putAt l at vs = cond (leb (at + length vs) (length l)) (take at l ++ vs ++ drop (at + length vs) l) l
+
+-- the list with the bytes vs in the place of its beginning
+unfoldable pub overlay : List ℕ → List ℕ → List ℕ
+overlay vs l = vs ++ drop (length vs) l

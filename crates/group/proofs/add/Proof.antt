@@ -1,0 +1,25 @@
+-- `group::add` meets its contract: a sum has the remainder of the sum of the remainders. Assumes nothing.
+use mathlib.Core.Path.{ap₂, sym, _∙_}
+use native.Mathlib.Nat.{add-mod}
+use Rattle.group.specs.Modular.{p, field}
+use borrow.Author.Needs.{needs}
+use Rattle.group.proofs.add.Statement.{statement}
+use Rattle.group.proofs.add.Tie as tie
+
+reduce-requires : tie.Need-reduce-requires
+reduce-requires c κs = search needs
+
+reduce-requires-2 : tie.Need-reduce-requires-2
+reduce-requires-2 c κs = search needs
+
+add-below-requires : tie.Need-add-below-requires
+add-below-requires c κs = search needs
+
+returns : tie.Need-returns
+returns c = (
+  c .add-below .ensures .0 ∙ ap₂ (field .add) (c .before .before .reduce .ensures .0) (c .before .reduce2 .ensures .0) ∙ sym (add-mod _ _ p),
+  c .add-below .ensures .1,
+)
+
+pub add-spec : {M : Type 1} → statement M
+add-spec = tie.close (tie.spec reduce-requires reduce-requires-2 add-below-requires returns)

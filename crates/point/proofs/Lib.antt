@@ -1,0 +1,11 @@
+pub mod Seeds
+pub mod Correct
+pub mod Local
+pub mod Prefix
+pub mod Totals
+pub mod Count
+pub mod Joined
+pub mod PublicShare
+pub mod Honest
+pub mod Instance
+pub mod Examples

@@ -1,0 +1,8 @@
+pub mod Scheme
+pub mod Node
+pub mod Correction
+pub mod Keys
+pub mod Share
+pub mod PublicShare
+pub mod Totals
+pub mod Instance

@@ -1,0 +1,1 @@
+// The incremental distributed point function: definitions and theorems, no code.

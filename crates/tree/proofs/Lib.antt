@@ -1,0 +1,14 @@
+pub mod Lists
+pub mod Rearranging
+pub mod Prefixes
+pub mod Children
+pub mod Queries
+pub mod Steps
+pub mod Kept
+pub mod Asked
+pub mod Totals
+pub mod Lengths
+pub mod Cutting
+pub mod Records
+pub mod Demands
+pub mod Examples

@@ -1,0 +1,49 @@
+-- The search as a loop: what one level adds, and what is left once nothing is kept. Assumes nothing.
+use Prim.Native.Nat.{ℕ, zero, suc, _-_, _≤_, _<_}
+use native.Mathlib.Omega.{arith}
+use mathlib.Core.Path.{_≡_, refl, ap}
+use mathlib.Core.Bool.{Bool, true, _&&_}
+use mathlib.Core.List.{List, [], _++_}
+use lib.ListN.{length}
+use lib.Dec.{leb}
+use Rattle.bits.specs.Lists.{select}
+use Rattle.bits.specs.Strings.{Bits}
+use Rattle.tree.specs.Query.{limit}
+use Rattle.tree.specs.Search.{start, children, level, keptFrom, fitsFrom, recordFrom, heading, isKept, searchRecord}
+
+one-more : (n k : ℕ) → k < n → n - k ≡ suc (n - suc k)
+one-more n k h = omega arith
+
+module _ (keeps : Bits → Bool) where
+  -- one step of a loop that has k of n levels behind it, and the prefixes ps kept
+  module _ (n k : ℕ) (ps : List Bits) (h : k < n) where
+    pub kept-step : keptFrom keeps (n - k) ps ≡ keptFrom keeps (n - suc k) (select keeps (children ps))
+    kept-step = rw (one-more n k h)
+
+    pub fits-step : fitsFrom keeps (n - k) ps ≡ (leb (length (children ps)) limit && fitsFrom keeps (n - suc k) (select keeps (children ps)))
+    fits-step = rw (one-more n k h)
+
+    pub record-step : (T : Bits → ℕ)
+        → recordFrom keeps T (n - k) k ps ≡ level T k (children ps) ++ recordFrom keeps T (n - suc k) (suc k) (select keeps (children ps))
+    record-step T = rw (one-more n k h)
+
+  -- below nothing, nothing is kept and nothing recorded
+  pub kept-nothing : (m : ℕ) → keptFrom keeps m [] ≡ []
+  kept-nothing zero = refl
+  kept-nothing (suc m) = kept-nothing m
+
+  pub fits-nothing : (m : ℕ) → fitsFrom keeps m [] ≡ true
+  fits-nothing zero = refl
+  fits-nothing (suc m) = fits-nothing m
+
+  pub record-nothing : (T : Bits → ℕ) (m k : ℕ) → recordFrom keeps T m k [] ≡ []
+  record-nothing T zero k = refl
+  record-nothing T (suc m) k = record-nothing T m (suc k)
+
+-- A record begins with the first query and its two totals.
+pub record-begins : (reaches : ℕ → Bool) (T : Bits → ℕ) (C n : ℕ) → 1 ≤ n
+    → searchRecord reaches T C n ≡ heading C ++ (level T 0 (children start) ++ recordFrom (isKept reaches T) T (n - 1) 1 (select (isKept reaches T) (children start)))
+unfolding searchRecord
+record-begins reaches T C n h =
+    let e : n - 0 ≡ n = omega arith in
+    ap (λ r. heading C ++ r) (rw e at (record-step (isKept reaches T) n 0 start h T))

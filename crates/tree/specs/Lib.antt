@@ -1,0 +1,4 @@
+pub mod Query
+pub mod Search
+pub mod Cut
+pub mod Space

@@ -1,0 +1,1 @@
+// The prefix tree: definitions and theorems about the search rule. It has no code.
