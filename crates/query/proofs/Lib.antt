@@ -1,0 +1,4 @@
+pub mod Parts
+pub mod Place
+pub mod Check
+pub mod Ready

@@ -1,0 +1,16 @@
+-- `query::prefix_length` meets its contract. It is one more than the first field. Assumes nothing.
+use native.Mathlib.Omega.{arith}
+use Rattle.query.proofs.prefix_length.Statement.{statement}
+use Rattle.query.proofs.prefix_length.Tie as tie
+
+read-be2-requires : tie.Need-read-be2-requires
+read-be2-requires c κs = tt
+
+add-result : tie.Need-add-result
+add-result c = omega arith
+
+returns : tie.Need-returns
+returns c = omega arith
+
+pub prefix-length-spec : {M : Type 1} → statement M
+prefix-length-spec = tie.close (tie.spec read-be2-requires add-result returns)
