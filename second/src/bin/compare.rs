@@ -1,0 +1,112 @@
+//! Compares the library's calls with the second program's, byte by byte.
+//!
+//! Arguments, all optional: seed=S calls=N spoil=K trace
+
+#[cfg(feature = "block")]
+#[path = "compare/blocks.rs"]
+mod blocks;
+#[path = "compare/calls.rs"]
+mod calls;
+#[cfg(feature = "combine")]
+#[path = "compare/combines.rs"]
+mod combines;
+#[cfg(feature = "keys")]
+#[path = "compare/keys.rs"]
+mod keys;
+#[allow(dead_code)]
+#[path = "compare/make.rs"]
+mod make;
+#[allow(dead_code)]
+#[path = "compare/queries.rs"]
+mod queries;
+#[cfg(feature = "search")]
+#[path = "compare/searches.rs"]
+mod searches;
+#[cfg(feature = "keys")]
+#[path = "compare/shares.rs"]
+mod shares;
+#[allow(dead_code)]
+#[path = "compare/tally.rs"]
+mod tally;
+
+use std::process::ExitCode;
+
+/// The numbers each call must have been seen to return.
+const NUMBERS: [(&str, bool, &[u64]); 5] = [
+    ("block", cfg!(feature = "block"), &[0, 3, 4, 11]),
+    ("key", cfg!(feature = "keys"), &[0, 1, 3, 4, 7, 11]),
+    (
+        "share",
+        cfg!(feature = "keys"),
+        &[0, 1, 3, 4, 5, 6, 7, 9, 11],
+    ),
+    (
+        "combine",
+        cfg!(feature = "combine"),
+        &[0, 1, 2, 4, 6, 9, 11],
+    ),
+    (
+        "search",
+        cfg!(feature = "search"),
+        &[0, 1, 2, 3, 4, 5, 6, 7, 8, 11],
+    ),
+];
+
+fn main() -> ExitCode {
+    let (mut seed, mut count) = (1u64, 2000usize);
+    let mut tally = tally::Tally::default();
+    for argument in std::env::args().skip(1) {
+        let (name, value) = argument.split_once('=').unwrap_or((&argument, ""));
+        let number = value.parse::<u64>();
+        match (name, number) {
+            ("seed", Ok(number)) => seed = number,
+            ("calls", Ok(number)) => count = number as usize,
+            ("spoil", Ok(number)) => tally.spoil = Some(number),
+            ("trace", _) => tally.trace = true,
+            _ => {
+                eprintln!("arguments: seed=S calls=N spoil=K trace");
+                return ExitCode::from(2);
+            }
+        }
+    }
+    println!("seed={seed} calls={count} of each kind, special calls besides");
+    if NUMBERS.iter().all(|(_, on, _)| !on) {
+        eprintln!("build with --features block, keys, combine, search or selftest");
+        return ExitCode::from(2);
+    }
+    println!("compared with: {}", calls::NAME);
+    #[cfg(feature = "block")]
+    blocks::run(seed, count, &mut tally);
+    #[cfg(feature = "keys")]
+    keys::run(seed, count, &mut tally);
+    #[cfg(feature = "keys")]
+    shares::run(seed, count, &mut tally);
+    #[cfg(feature = "combine")]
+    combines::run(seed, count, &mut tally);
+    #[cfg(feature = "search")]
+    searches::run(seed, count, &mut tally);
+    tally.print();
+    let mut missing = 0;
+    for (call, on, numbers) in NUMBERS {
+        for number in numbers.iter().filter(|_| on) {
+            if !tally.met(call, *number) {
+                println!("NOT MET: {call} returning {number}");
+                missing += 1;
+            }
+        }
+    }
+    if cfg!(feature = "combine") {
+        for kind in 0..4 {
+            if !tally.met_kind(kind) {
+                println!("NOT MET: combine answering kind {kind}");
+                missing += 1;
+            }
+        }
+    }
+    println!("calls: {}", tally.calls);
+    println!("differences: {}", tally.differences);
+    if tally.differences > 0 || missing > 0 {
+        return ExitCode::from(1);
+    }
+    ExitCode::SUCCESS
+}

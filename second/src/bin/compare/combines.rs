@@ -1,0 +1,197 @@
+//! Comparison of combining.
+
+use crate::calls;
+use crate::make::*;
+use crate::queries;
+use crate::tally::{shown, Outcome, Plan, Space, Tally};
+use second::field::{add, negate, reduce, P};
+use second::rng::Rng;
+
+const DAMAGES: [&str; 11] = [
+    "n",
+    "t",
+    "share 0 length",
+    "share 1 length",
+    "both lengths",
+    "number in share 0",
+    "number in share 1",
+    "number p - 1",
+    "query",
+    "query bit",
+    "room",
+];
+
+struct Call {
+    n: u64,
+    t: u64,
+    query: Vec<u8>,
+    shares: [Vec<u8>; 2],
+    room: usize,
+}
+
+pub fn run(start: u64, count: usize, tally: &mut Tally) {
+    let mut rng = Rng::new(start ^ 4);
+    for i in 0..count {
+        let plan = Plan::of(i, &DAMAGES);
+        let call = if plan.hostile() {
+            hostile(&mut rng)
+        } else {
+            damaged(&mut rng, &plan)
+        };
+        compare(&mut rng, &plan, call, tally);
+    }
+    for (name, call) in specials(&mut rng) {
+        compare(&mut rng, &Plan::special(name), call, tally);
+    }
+}
+
+/// Two shares with these totals.
+fn split(rng: &mut Rng, totals: &[u64]) -> [Vec<u8>; 2] {
+    let mut shares = [Vec::new(), Vec::new()];
+    for &total in totals {
+        let any = reduce(rng.number());
+        let part = rng.pick(&[0, 1, P - 1, any, any, any]);
+        shares[0].extend(part.to_le_bytes());
+        shares[1].extend(add(total, negate(part)).to_le_bytes());
+    }
+    shares
+}
+
+fn damaged(rng: &mut Rng, plan: &Plan) -> Call {
+    let n = good_n(rng, false);
+    let t = good_t(rng);
+    let query = queries::good(rng, n as usize, &[]);
+    let count = second::query::Query::read(n as usize, &query).map_or(0, |q| q.count);
+    let low = rng.below(4) == 0 && !plan.has("room");
+    let mut totals = Vec::new();
+    for i in 0..count {
+        let any = reduce(rng.number());
+        let mut total = rng.pick(&[0, t - 1, t, t, t + 1, P - 1, any]);
+        if low {
+            total = rng.pick(&[0, t - 1]);
+        } else if i == 0 && plan.has("room") {
+            total = t;
+        }
+        totals.push(total);
+    }
+    let mut call = Call {
+        n,
+        t,
+        query,
+        shares: split(rng, &totals),
+        room: 0,
+    };
+    let mut wide = vec![0; 1 << 12];
+    let [share0, share1] = &call.shares;
+    let made = second::combine(n, t, &call.query, share0, share1, &mut wide);
+    let size = made.length as usize;
+    call.room = room(rng, size);
+    for damage in plan.damages.iter().rev() {
+        match *damage {
+            "n" => call.n = bad_n(rng),
+            "t" => call.t = bad_t(rng),
+            "share 0 length" => wrong_length(rng, &mut call.shares[0], 8),
+            "share 1 length" => wrong_length(rng, &mut call.shares[1], 8),
+            "both lengths" => {
+                let length = 8 * count;
+                let length = rng.pick(&[0, length - 8, length - 1, length + 1, length + 8]);
+                call.shares[0].resize(length, 0);
+                call.shares[1].resize(length, 0);
+            }
+            "number in share 0" => set_number(rng, &mut call.shares[0], None),
+            "number in share 1" => set_number(rng, &mut call.shares[1], None),
+            "number p - 1" => {
+                let server = rng.below(2);
+                set_number(rng, &mut call.shares[server], Some(P - 1));
+            }
+            "query" => queries::spoil(rng, n as usize, &mut call.query),
+            "query bit" => flip(rng, &mut call.query),
+            _ => call.room = short_room(rng, size),
+        }
+    }
+    call
+}
+
+/// Writes one number of a share, one too large where none is given.
+fn set_number(rng: &mut Rng, share: &mut [u8], number: Option<u64>) {
+    let number = number.unwrap_or_else(|| too_large(rng));
+    if share.len() >= 8 {
+        let at = 8 * rng.below(share.len() / 8);
+        share[at..at + 8].copy_from_slice(&number.to_le_bytes());
+    }
+}
+
+fn hostile(rng: &mut Rng) -> Call {
+    let n = any_number(rng);
+    let length = 8 * rng.below(4);
+    let mut call = Call {
+        n,
+        t: any_number(rng),
+        query: queries::wild(rng),
+        shares: [rng.bytes(length), rng.bytes(length)],
+        room: rng.below(60),
+    };
+    if rng.coin() {
+        call.n = 1 + rng.below(40) as u64;
+        call.t = good_t(rng);
+        call.query = queries::good(rng, call.n as usize, &[]);
+    }
+    call
+}
+
+/// Calls around the largest next query and the largest list.
+fn specials(rng: &mut Rng) -> Vec<(&'static str, Call)> {
+    let mut calls = Vec::new();
+    for (name, n, count, kept, room) in [
+        ("65535 kept", 18, 131_070, 65_535, 393_216),
+        ("65535 kept, short room", 18, 131_070, 65_535, 393_215),
+        ("65536 kept", 18, 131_070, 65_536, 500_000),
+        ("65536 kept, no room", 18, 131_070, 65_536, 0),
+        ("131070 kept", 18, 131_070, 131_070, 900_000),
+        ("131070 kept, list", 17, 131_070, 131_070, 393_210),
+        (
+            "131070 kept, list, short room",
+            17,
+            131_070,
+            131_070,
+            393_209,
+        ),
+        ("131071 prefixes", 17, 131_071, 131_071, 393_213),
+        ("131071 prefixes, none kept", 18, 131_071, 0, 400_000),
+    ] {
+        let t = good_t(rng);
+        let totals: Vec<u64> = (0..count)
+            .map(|i| if i < kept { t } else { t - 1 })
+            .collect();
+        let call = Call {
+            n,
+            t,
+            query: queries::long(17, count),
+            shares: split(rng, &totals),
+            room,
+        };
+        calls.push((name, call));
+    }
+    calls
+}
+
+fn compare(rng: &mut Rng, plan: &Plan, call: Call, tally: &mut Tally) {
+    let [share0, share1] = &call.shares;
+    let inputs = format!("n={} t={} ", call.n, call.t)
+        + &shown("query", &call.query)
+        + &shown("share0", share0)
+        + &shown("share1", share1);
+    tally.before("combine", plan, &inputs);
+    let salt = rng.number();
+    type Combine = fn(u64, u64, &[u8], &[u8], &[u8], &mut [u8]) -> second::Combined;
+    let both = [second::combine as Combine, calls::combine as Combine];
+    let [ours, theirs] = both.map(|combine| {
+        let mut space = Space::new(call.room, salt);
+        let made = combine(call.n, call.t, &call.query, share0, share1, space.lent());
+        Outcome {
+            numbers: vec![made.number, made.kind, made.length],
+            spaces: vec![space],
+        }
+    });
+    tally.judge("combine", plan, ours, theirs, &inputs);
+}

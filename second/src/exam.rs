@@ -1,0 +1,188 @@
+//! The exam program: from the text on standard input to the whole output.
+
+use crate::query::{pack, unpack, Query};
+use crate::{field, key, search};
+
+/// An exam text as laid out.
+struct Text {
+    n: usize,
+    t: u64,
+    expander: u64,
+    reports: Vec<Line>,
+}
+
+struct Line {
+    string: Vec<bool>,
+    seed0: Vec<u8>,
+    seed1: Vec<u8>,
+}
+
+/// The whole output for a standard input.
+pub fn exam(text: &[u8]) -> Vec<u8> {
+    let outcome = match read(text) {
+        Some(text) => judged(&text),
+        None => Err(10),
+    };
+    match outcome {
+        Ok(lines) => lines.into_bytes(),
+        Err(number) => format!("refused {number}\n").into_bytes(),
+    }
+}
+
+fn judged(text: &Text) -> Result<String, u64> {
+    crate::bits_in_bounds(text.n as u64)?;
+    crate::threshold_in_bounds(text.t)?;
+    crate::expander::Expander::of(text.expander)?;
+    let n = text.n as u64;
+    let mut seeds0 = Vec::new();
+    let mut seeds1 = Vec::new();
+    let mut public_shares = Vec::new();
+    for line in &text.reports {
+        let mut space = vec![0u8; crate::keys::public_share_size(text.n)];
+        let string = pack(&line.string);
+        let made = key(
+            n,
+            text.expander,
+            &string,
+            &line.seed0,
+            &line.seed1,
+            &mut space,
+        );
+        if made.number != 0 {
+            return Err(made.number);
+        }
+        public_shares.extend_from_slice(&space);
+        seeds0.extend_from_slice(&line.seed0);
+        seeds1.extend_from_slice(&line.seed1);
+    }
+    let mut record = vec![0u8; 1 << 16];
+    let mut list = vec![0u8; 1 << 10];
+    let found = search(
+        n,
+        text.t,
+        text.expander,
+        &seeds0,
+        &public_shares,
+        &seeds1,
+        &public_shares,
+        &mut record,
+        &mut list,
+    );
+    if found.number != 0 {
+        return Err(found.number);
+    }
+    let record = &record[..found.record_length as usize];
+    let list = &list[..found.list_length as usize];
+    Ok(printed(text.n, record, list))
+}
+
+fn digits(packed: &[u8], bits: usize) -> String {
+    unpack(packed, bits)
+        .iter()
+        .map(|&bit| if bit { '1' } else { '0' })
+        .collect()
+}
+
+fn printed(n: usize, record: &[u8], list: &[u8]) -> String {
+    let mut lines = String::new();
+    for (length, prefix, total) in entries(record) {
+        lines += &format!("{} {total}\n", digits(&prefix, length));
+    }
+    for string in list.chunks(crate::query::packed_size(n)) {
+        lines += &format!("heavy {}\n", digits(string, n));
+    }
+    lines
+}
+
+/// Each queried prefix of a record: its length, its packed bits, its total.
+pub fn entries(record: &[u8]) -> Vec<(usize, Vec<u8>, u64)> {
+    let mut entries = Vec::new();
+    let mut rest = record;
+    while rest.len() >= 6 {
+        let length = u16::from_be_bytes([rest[0], rest[1]]) as usize + 1;
+        let count = u32::from_be_bytes([rest[2], rest[3], rest[4], rest[5]]) as usize;
+        let end = 6 + count * crate::query::packed_size(length);
+        if let Ok(query) = Query::read(length, &rest[..end]) {
+            for i in 0..count {
+                let total = field::read(&rest[end + 8 * i..end + 8 * i + 8]);
+                entries.push((length, query.prefix(i).to_vec(), total));
+            }
+        }
+        rest = &rest[end + 8 * count..];
+    }
+    entries
+}
+
+fn read(text: &[u8]) -> Option<Text> {
+    if text.len() > 4096 || text.last() != Some(&b'\n') {
+        return None;
+    }
+    let mut lines = text[..text.len() - 1].split(|&byte| byte == b'\n');
+    let head: Vec<&[u8]> = lines.next()?.split(|&byte| byte == b' ').collect();
+    if head.len() != 3 && head.len() != 4 {
+        return None;
+    }
+    let numbers: Option<Vec<u64>> = head.iter().map(|field| decimal(field)).collect();
+    let numbers = numbers?;
+    let (n, t, count) = (numbers[0], numbers[1], numbers[2]);
+    if n > 32 || count > 32 {
+        return None;
+    }
+    let reports: Option<Vec<Line>> = lines.map(|line| report(line, n as usize)).collect();
+    let reports = reports?;
+    if reports.len() as u64 != count {
+        return None;
+    }
+    Some(Text {
+        n: n as usize,
+        t,
+        expander: numbers.get(3).copied().unwrap_or(2),
+        reports,
+    })
+}
+
+fn decimal(field: &[u8]) -> Option<u64> {
+    if field.is_empty() || field.len() > 5 || !field.iter().all(|byte| byte.is_ascii_digit()) {
+        return None;
+    }
+    if field.len() > 1 && field[0] == b'0' {
+        return None;
+    }
+    let number = field
+        .iter()
+        .fold(0, |sum, byte| 10 * sum + (byte - b'0') as u64);
+    Some(number)
+}
+
+fn report(line: &[u8], n: usize) -> Option<Line> {
+    let fields: Vec<&[u8]> = line.split(|&byte| byte == b' ').collect();
+    if fields.len() != 3 || fields[0].len() != n {
+        return None;
+    }
+    if fields[0].iter().any(|&byte| byte != b'0' && byte != b'1') {
+        return None;
+    }
+    Some(Line {
+        string: fields[0].iter().map(|&byte| byte == b'1').collect(),
+        seed0: seed(fields[1])?,
+        seed1: seed(fields[2])?,
+    })
+}
+
+fn seed(field: &[u8]) -> Option<Vec<u8>> {
+    if field.len() != 32 {
+        return None;
+    }
+    field
+        .chunks(2)
+        .map(|pair| Some(16 * hex(pair[0])? + hex(pair[1])?))
+        .collect()
+}
+
+fn hex(digit: u8) -> Option<u8> {
+    match digit {
+        b'0'..=b'9' => Some(digit - b'0'),
+        b'a'..=b'f' => Some(digit - b'a' + 10),
+        _ => None,
+    }
+}
