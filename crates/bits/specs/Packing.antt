@@ -53,7 +53,7 @@ unfoldable pub spareZero : ℕ → List ℕ → Bool
 unfolding bitsOf
 spareZero n xs = isZero (drop n (bitsOf xs))
 
--- whether xs stands before ys: at the first place where they differ, xs has the lesser byte
+-- whether xs stands before ys, of one length: at the first place where they differ, xs has the lesser byte
 unfoldable pub bytesBefore : List ℕ → List ℕ → Bool
 bytesBefore [] ys = false
 bytesBefore (x ∷ xs) [] = false

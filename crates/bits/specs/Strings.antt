@@ -23,7 +23,7 @@ isPrefix (b ∷ q) (c ∷ s) = Bool·beq b c && isPrefix q s
 abbrev pub count : List Bits → Bits → ℕ
 count xs q = number (isPrefix q) xs
 
--- whether p stands before q: at the first place where they differ, p has 0 and q has 1
+-- whether p stands before q, of one length: at the first place where they differ, p has 0 and q has 1
 abbrev pub isBefore : Bits → Bits → Bool
 isBefore [] q = false
 isBefore (b ∷ p) [] = false

@@ -1,4 +1,4 @@
--- Document 01's table of bounds. Assumes nothing.
+-- Bounds of document 01 that several calls share. Assumes nothing.
 use Prim.Native.Nat.{ℕ, _<_}
 use mathlib.Core.Bool.{Bool, _||_}
 use mathlib.Core.Logic.{_⊎_}

@@ -11,6 +11,6 @@ use Rattle.tree.specs.Query.{prefixLength}
 unfoldable pub part : ℕ → ℕ → List ℕ → List ℕ
 part w at bytes = cond (leb (at + w) (length bytes)) (take w (drop at bytes)) []
 
--- prefix i of a query, packed
+-- prefix i of a query, packed, whatever the count says
 abbrev pub packedPrefix : List ℕ → ℕ → List ℕ
 packedPrefix bytes i = part (packedLength (prefixLength bytes)) (6 + i * packedLength (prefixLength bytes)) bytes

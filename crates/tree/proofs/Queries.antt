@@ -14,7 +14,7 @@ use Rattle.bits.specs.Strings.{Bits, isBefore, Before, Ascending}
 use Rattle.bits.specs.Numbers.{Bytes, big, fromBig}
 use Rattle.bits.specs.Packing.{packedLength, pack, unpack, spareZero, bytesBefore}
 use Rattle.bits.specs.Places.{window}
-use Rattle.bits.proofs.Endian.{big-length, fromBig-big, big-fromBig}
+use Rattle.bits.proofs.Endian.{big-length, fromBig-big, big-fromBig, fromBig-below}
 use Rattle.bits.proofs.Places.{window-inside, window-bytes}
 use Rattle.bits.proofs.Order.{before-transitive, before-pack}
 use Rattle.bits.proofs.Packed.{pack-length, unpack-length, unpack-pack, pack-unpack, pack-spareZero}
@@ -172,12 +172,12 @@ module _ (k : ℕ) (qs : List Bits) where
 -- ---- the check is exact
 
 module _ (n : ℕ) (bytes : List ℕ) where
-  pub query-passes : n ≤ 65536 → IsQuery n bytes → isQuery n bytes ≡ true
+  pub query-passes : IsQuery n bytes → isQuery n bytes ≡ true
   unfolding isQuery
-  query-passes h q =
+  query-passes q =
       let k = q .k in
       let qs = q .prefixes in
-      let short : k < 65536 = omega (arith, q .not-longer) in
+      let short = q .in-field in
       let few : length qs < 4294967296 = omega (arith, q .not-more) in
       rw (
         q .written,
@@ -215,6 +215,7 @@ module _ (n : ℕ) (bytes : List ℕ) where
           k = fromBig (window 2 0 bytes);
           prefixes = prefixesOf bytes;
           not-longer = leb-true len n (t .0);
+          in-field = fromBig-below 2 (window 2 0 bytes) (window-bytes 2 0 bytes byte);
           one-length = unpack-parts len m (drop 6 bytes) rest;
           some = rw many (leb-true 1 m (t .1));
           not-more = rw many (leb-true m limit (t .2));
@@ -228,8 +229,8 @@ module _ (n : ℕ) (bytes : List ℕ) where
         }
 
   -- bytes pass the check exactly when they are a query for strings of n bits
-  pub query-exact : n ≤ 65536 → ((i : ℕ) → getD bytes i 0 < 256) → (isQuery n bytes ≡ true) ↔ IsQuery n bytes
-  query-exact h byte = (passed-query byte, query-passes h)
+  pub query-exact : ((i : ℕ) → getD bytes i 0 < 256) → (isQuery n bytes ≡ true) ↔ IsQuery n bytes
+  query-exact byte = (passed-query byte, query-passes)
 
 -- ---- one prefix after the other
 

@@ -1,5 +1,5 @@
 -- Document 01, 'Query': the prefixes that two servers are asked about, as bytes. Assumes nothing.
-use Prim.Native.Nat.{ℕ, zero, suc, _+_, _*_, _≤_}
+use Prim.Native.Nat.{ℕ, zero, suc, _+_, _*_, _≤_, _<_}
 use mathlib.Core.Path.{_≡_}
 use mathlib.Core.Bool.{Bool, true, _&&_}
 use mathlib.Core.List.{List, [], _∷_, _++_, map}
@@ -33,6 +33,7 @@ pub record IsQuery (n : ℕ) (bytes : List ℕ) : Type 0 where
   pub k : ℕ
   pub prefixes : List Bits
   pub not-longer : suc k ≤ n
+  pub in-field : k < 65536
   pub one-length : OfLength (suc k) prefixes
   pub some : 1 ≤ length prefixes
   pub not-more : length prefixes ≤ limit
