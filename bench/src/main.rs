@@ -1,6 +1,7 @@
-//! Speed of the proved library beside plain Rust, in one process and interleaved; every comparison first checks that the outputs agree.
+//! Speed of the proved library beside plain Rust, in one process and interleaved; every comparison checks that the outputs agree.
 
 mod plain_aes;
+mod plain_idpf;
 mod proved;
 mod same_aes;
 mod tables;
@@ -8,21 +9,14 @@ mod timing;
 
 use timing::{compare, Subject};
 
-/// One block of expander 1 with a fresh key: the seed of each call is the block that the call before it gave.
-fn chain(calls: usize, mut step: impl FnMut(&[u8; 16], u64) -> [u8; 16]) -> [u8; 16] {
-    let mut seed = [7u8; 16];
-    for j in 0..calls {
-        seed = step(&seed, j as u64);
-    }
-    seed
-}
+type Seed = [u8; 16];
 
-fn counter(j: u64) -> [u8; 16] {
+fn counter(j: u64) -> Seed {
     (j as u128).to_be_bytes()
 }
 
 #[inline(never)]
-fn proved_block(seed: &[u8; 16], j: u64) -> [u8; 16] {
+fn proved_block(seed: &Seed, j: u64) -> Seed {
     let mut out = [0u8; 16];
     let reply = proved::block(1, seed, j, &mut out);
     assert_eq!((reply.number, reply.length), (0, 16));
@@ -30,27 +24,125 @@ fn proved_block(seed: &[u8; 16], j: u64) -> [u8; 16] {
 }
 
 #[inline(never)]
-fn same_block(seed: &[u8; 16], j: u64) -> [u8; 16] {
+fn same_block(seed: &Seed, j: u64) -> Seed {
     same_aes::encrypt(*seed, counter(j))
 }
 
 #[inline(never)]
-fn plain_block(seed: &[u8; 16], j: u64) -> [u8; 16] {
+fn plain_block(seed: &Seed, j: u64) -> Seed {
     plain_aes::encrypt(seed, &counter(j))
 }
 
+/// One block of expander 1 with a fresh key: the seed of each call is the block that the call before it gave.
+fn blocks(calls: usize, step: fn(&Seed, u64) -> Seed) -> Seed {
+    (0..calls).fold([7u8; 16], |seed, j| step(&seed, j as u64))
+}
+
+/// A packed string of n bits that is neither regular nor random.
+fn string(n: usize) -> Vec<u8> {
+    let mut packed = vec![0u8; n.div_ceil(8)];
+    for i in (0..n).filter(|i| i * i / 3 % 2 == 1) {
+        packed[i / 8] |= 128 >> (i % 8);
+    }
+    packed
+}
+
+/// Keys of n levels, one after the other; the first seed of each call comes from the key before it.
+fn keys(calls: usize, n: usize, make: impl Fn(&[u8], [Seed; 2], &mut [u8])) -> Vec<u8> {
+    let string = string(n);
+    let mut out = vec![0u8; plain_idpf::public_share_length(n)];
+    let mut seed = [1u8; 16];
+    for _ in 0..calls {
+        make(&string, [seed, [2u8; 16]], &mut out);
+        seed.copy_from_slice(&out[out.len() - 24..out.len() - 8]);
+    }
+    out
+}
+
+/// Shares of one report at a prefix of n bits, one after the other; the seed of each call comes from the share before it.
+fn walks(calls: usize, n: usize, walk: impl Fn(Seed, &[u8], &[u8]) -> u64) -> u64 {
+    let prefix = string(n);
+    let mut key = vec![0u8; plain_idpf::public_share_length(n)];
+    plain_idpf::make_key(same_block, n, &prefix, [[1; 16], [2; 16]], &mut key);
+    let mut seed = [3u8; 16];
+    let mut last = 0;
+    for _ in 0..calls {
+        last = walk(seed, &key, &prefix);
+        seed[..8].copy_from_slice(&last.to_le_bytes());
+    }
+    last
+}
+
+fn proved_walk(n: usize, seed: Seed, key: &[u8], prefix: &[u8]) -> u64 {
+    let mut query = Vec::with_capacity(6 + prefix.len());
+    query.extend_from_slice(&(n as u16 - 1).to_be_bytes());
+    query.extend_from_slice(&1u32.to_be_bytes());
+    query.extend_from_slice(prefix);
+    let mut out = [0u8; 8];
+    let reply = proved::share(n as u64, 1, true, &seed, key, &query, &mut out);
+    assert_eq!((reply.number, reply.length), (0, 8));
+    u64::from_le_bytes(out)
+}
+
+fn plain_walk(block: fn(&Seed, u64) -> Seed, n: usize, seed: Seed, key: &[u8], prefix: &[u8]) -> u64 {
+    assert!(plain_idpf::is_public_share(n, key));
+    plain_idpf::share(block, n, true, seed, key, prefix, n)
+}
+
 fn main() {
-    let check_only = std::env::args().any(|a| a == "--check");
-    let calls = if check_only { 2_000 } else { 20_000 };
-    let rounds = if check_only { 2 } else { 60 };
+    let check = std::env::args().any(|a| a == "--check");
+    let rounds = if check { 2 } else { 40 };
+    let many = |calls: usize| if check { calls.div_ceil(20) } else { calls };
     compare(
         "one AES block, fresh key",
-        calls,
+        many(20_000),
+        1,
         rounds,
         &mut [
-            Subject::new("proved", |n| chain(n, proved_block)),
-            Subject::new("the same code in Rust", |n| chain(n, same_block)),
-            Subject::new("plain byte-table Rust", |n| chain(n, plain_block)),
+            Subject::new("proved", |c| blocks(c, proved_block)),
+            Subject::new("the same code in Rust", |c| blocks(c, same_block)),
+            Subject::new("plain byte-table Rust", |c| blocks(c, plain_block)),
         ],
     );
+    for n in [32, 256] {
+        compare(
+            &format!("one key of {n} levels"),
+            many(12_800 / n),
+            1,
+            rounds,
+            &mut [
+                Subject::new("proved", |c| {
+                    keys(c, n, |string, [s0, s1], out| {
+                        let reply = proved::key(n as u64, 1, string, &s0, &s1, out);
+                        assert_eq!((reply.number, reply.length as usize), (0, out.len()));
+                    })
+                }),
+                Subject::new("plain Rust, same AES", |c| {
+                    keys(c, n, |string, seeds, out| {
+                        plain_idpf::make_key(same_block, n, string, seeds, out)
+                    })
+                }),
+                Subject::new("plain Rust, plain AES", |c| {
+                    keys(c, n, |string, seeds, out| {
+                        plain_idpf::make_key(plain_block, n, string, seeds, out)
+                    })
+                }),
+            ],
+        );
+        compare(
+            &format!("one level of a walk of {n} levels, one report"),
+            many(25_600 / n),
+            n,
+            rounds,
+            &mut [
+                Subject::new("proved", |c| walks(c, n, |s, key, q| proved_walk(n, s, key, q))),
+                Subject::new("plain Rust, same AES", |c| {
+                    walks(c, n, |s, key, q| plain_walk(same_block, n, s, key, q))
+                }),
+                Subject::new("plain Rust, plain AES", |c| {
+                    walks(c, n, |s, key, q| plain_walk(plain_block, n, s, key, q))
+                }),
+            ],
+        );
+    }
 }

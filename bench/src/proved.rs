@@ -8,28 +8,104 @@ pub struct Reply {
     pub length: u64,
 }
 
-extern "C" {
-    fn tally_block(
-        expander: u64,
-        seed: *const u8,
-        seed_len: usize,
-        j: u64,
-        block: *mut u8,
-        block_len: usize,
-    ) -> Reply;
+mod raw {
+    use super::Reply;
+
+    extern "C" {
+        pub fn tally_block(
+            expander: u64,
+            seed: *const u8,
+            seed_len: usize,
+            j: u64,
+            block: *mut u8,
+            block_len: usize,
+        ) -> Reply;
+
+        pub fn tally_key(
+            n: u64,
+            expander: u64,
+            string: *const u8,
+            string_len: usize,
+            seed0: *const u8,
+            seed0_len: usize,
+            seed1: *const u8,
+            seed1_len: usize,
+            public_share: *mut u8,
+            public_share_len: usize,
+        ) -> Reply;
+
+        pub fn tally_share(
+            n: u64,
+            expander: u64,
+            server: bool,
+            seeds: *const u8,
+            seeds_len: usize,
+            public_shares: *const u8,
+            public_shares_len: usize,
+            query: *const u8,
+            query_len: usize,
+            share: *mut u8,
+            share_len: usize,
+        ) -> Reply;
+    }
 }
+
+// Each function lends slices: the library reads and writes within the lengths that it is given.
 
 /// Block `j` of `seed` under an expander, written into `block`.
 pub fn block(expander: u64, seed: &[u8], j: u64, block: &mut [u8]) -> Reply {
-    // The library reads `seed` and writes `block` within the lengths that it is given.
+    let (s, b) = (seed.as_ptr(), block.as_mut_ptr());
+    unsafe { raw::tally_block(expander, s, seed.len(), j, b, block.len()) }
+}
+
+/// The public share of a packed string of `n` bits, written into `out`.
+pub fn key(
+    n: u64,
+    expander: u64,
+    string: &[u8],
+    seed0: &[u8],
+    seed1: &[u8],
+    out: &mut [u8],
+) -> Reply {
     unsafe {
-        tally_block(
+        raw::tally_key(
+            n,
             expander,
-            seed.as_ptr(),
-            seed.len(),
-            j,
-            block.as_mut_ptr(),
-            block.len(),
+            string.as_ptr(),
+            string.len(),
+            seed0.as_ptr(),
+            seed0.len(),
+            seed1.as_ptr(),
+            seed1.len(),
+            out.as_mut_ptr(),
+            out.len(),
+        )
+    }
+}
+
+/// A server's share for a query, written into `out`.
+pub fn share(
+    n: u64,
+    expander: u64,
+    server: bool,
+    seeds: &[u8],
+    public_shares: &[u8],
+    query: &[u8],
+    out: &mut [u8],
+) -> Reply {
+    unsafe {
+        raw::tally_share(
+            n,
+            expander,
+            server,
+            seeds.as_ptr(),
+            seeds.len(),
+            public_shares.as_ptr(),
+            public_shares.len(),
+            query.as_ptr(),
+            query.len(),
+            out.as_mut_ptr(),
+            out.len(),
         )
     }
 }

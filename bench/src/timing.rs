@@ -18,11 +18,12 @@ impl<'a, T> Subject<'a, T> {
     }
 }
 
-/// Runs the subjects in turn, checks that all give the same result, and prints nanoseconds for a call and the ratio of the first
-/// subject to each.
+/// Runs the subjects in turn, checks that all give the same result, and prints nanoseconds for each of the `parts` of a call and the
+/// ratio of the first subject to each.
 pub fn compare<T: PartialEq + Debug>(
     title: &str,
     calls: usize,
+    parts: usize,
     rounds: usize,
     subjects: &mut [Subject<T>],
 ) {
@@ -32,7 +33,7 @@ pub fn compare<T: PartialEq + Debug>(
         for (subject, best) in subjects.iter_mut().zip(&mut best) {
             let start = Instant::now();
             let result = (subject.run)(calls);
-            let ns = start.elapsed().as_nanos() as f64 / calls as f64;
+            let ns = start.elapsed().as_nanos() as f64 / (calls * parts) as f64;
             *best = best.min(ns);
             match &first {
                 None => first = Some(result),

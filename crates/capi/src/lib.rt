@@ -5,6 +5,8 @@ ghost use mathlib.Core.Path.{_≡_};
 ghost use lib.ListN.{length};
 ghost use Rattle.bits.specs.Places.{overlay};
 ghost use Rattle.capi.specs.Block.{blockOutcome};
+ghost use Rattle.idpf.specs.Key.{keyOutcome};
+ghost use Rattle.idpf.specs.Share.{shareOutcome};
 
 // Writes block j of a seed of 16 bytes; refuses with 3, 4 or 11.
 #[no_mangle]
@@ -39,4 +41,40 @@ pub extern "C" fn tally_block(expander: u64, seed: &[u8], j: u64, block: &mut [u
             length: 0,
         },
     }
+}
+
+// Writes the public share of a packed string of n bits; refuses with 1, 3, 4, 7 or 11.
+#[no_mangle]
+pub extern "C" fn tally_key(
+    n: u64,
+    expander: u64,
+    string: &[u8],
+    seed0: &[u8],
+    seed1: &[u8],
+    public_share: &mut [u8],
+) -> Reply
+    ensures number { λ r. ⌜ r .number ≡ keyOutcome n expander (now (string .entry)) (now (seed0 .entry)) (now (seed1 .entry)) (length (now («public_share» .entry))) .number ⌝ }
+    ensures written { λ r. ⌜ r .length ≡ length (keyOutcome n expander (now (string .entry)) (now (seed0 .entry)) (now (seed1 .entry)) (length (now («public_share» .entry))) .written) ⌝ }
+    ensures space { λ r. ⌜ now («public_share» .exit) ≡ overlay (keyOutcome n expander (now (string .entry)) (now (seed0 .entry)) (now (seed1 .entry)) (length (now («public_share» .entry))) .written) (now («public_share» .entry)) ⌝ }
+{
+    idpf::make_key(n, expander, string, seed0, seed1, public_share)
+}
+
+// Writes a server's share for a query, 8 bytes a prefix; the server is told by a truth value, true for 1. Refuses with 1, 3, 4, 5, 6,
+// 7, 9 or 11.
+#[no_mangle]
+pub extern "C" fn tally_share(
+    n: u64,
+    expander: u64,
+    server: bool,
+    seeds: &[u8],
+    public_shares: &[u8],
+    query: &[u8],
+    share: &mut [u8],
+) -> Reply
+    ensures number { λ r. ⌜ r .number ≡ shareOutcome n expander server (now (seeds .entry)) (now («public_shares» .entry)) (now (query .entry)) (length (now (share .entry))) .number ⌝ }
+    ensures written { λ r. ⌜ r .length ≡ length (shareOutcome n expander server (now (seeds .entry)) (now («public_shares» .entry)) (now (query .entry)) (length (now (share .entry))) .written) ⌝ }
+    ensures space { λ r. ⌜ now (share .exit) ≡ overlay (shareOutcome n expander server (now (seeds .entry)) (now («public_shares» .entry)) (now (query .entry)) (length (now (share .entry))) .written) (now (share .entry)) ⌝ }
+{
+    idpf::share(n, expander, server, seeds, public_shares, query, share)
 }

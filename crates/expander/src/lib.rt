@@ -8,7 +8,7 @@ ghost use Prim.Native.Nat.{_+_, _%_, _^_};
 ghost use lib.ListN.{take, drop};
 ghost use mathlib.Core.List.{_++_};
 ghost use Rattle.bits.specs.Numbers.{big, little, fromLittle};
-ghost use Rattle.expander.specs.Expander.{blockOf, classroomBlock, choiceOf, xorBytes};
+ghost use Rattle.expander.specs.Expander.{blockOf, classroomBlock, isExpander, choiceOf, xorBytes};
 
 // Expander 1 is AES-128; expander 2, for the classroom, hides nothing.
 pub enum Expander {
@@ -26,6 +26,16 @@ pub enum Choice {
 pub struct Blocks {
     pub first: [u8; 16],
     pub second: [u8; 16],
+}
+
+// Whether a number names an expander.
+pub fn is_expander(number: u64) -> bool
+    ensures { λ r. ⌜ r ≡ isExpander number ⌝ }
+{
+    if number == 1 {
+        return true;
+    }
+    number == 2
 }
 
 // The expander that a number names.

@@ -1,5 +1,5 @@
-// Runs the published vectors of AES-128 and both expanders on a fixed seed, and prints what comes out.
-use expander::Expander;
+// Runs the published vectors of AES-128, both expanders on a fixed seed, keys and shares, and prints what comes out.
+mod keys;
 
 // Standard output.
 const OUT: i32 = 1;
@@ -91,4 +91,7 @@ fn main() {
     blocks(b"expander 2", 2, seed);
     blocks(b"expander 2, all ones", 2, [255u8; 16]);
     blocks(b"expander 3", 3, seed);
+    keys::short_strings(1);
+    keys::short_strings(2);
+    keys::long_string(1);
 }

@@ -1,0 +1,6 @@
+pub mod Accepted
+pub mod Pieces
+pub mod Keys
+pub mod Sums
+pub mod Shares
+pub mod Sheet

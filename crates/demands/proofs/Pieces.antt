@@ -1,0 +1,38 @@
+-- Pieces of one length, one for each report, laid one after the other: how many bytes they are, and where each lies. Assumes nothing.
+use mathlib.Core.Path.{_≡_, sym, ap₂, _∙_}
+use mathlib.Core.List.{List, [], _∷_}
+use Prim.Native.Nat.{ℕ, zero, suc, _+_, _*_, _<_}
+use native.Mathlib.Nat.{mul-zero, mul-suc}
+use native.Mathlib.Omega.{arith}
+use lib.ListN.{length, getD, take, drop, length-append}
+use lib.Seq.{take-at, drop-at, drop-drop}
+use Rattle.bits.specs.Lists.{All}
+use Rattle.point.specs.Totals.{Report}
+use Rattle.demands.specs.Honest.{oneByOne}
+
+-- what holds of all holds of the element at place i
+pub all-at : {A : Type 0} (P : A → Type 0) (xs : List A) (d : A) (i : ℕ) → All P xs → i < length xs → P (getD xs i d)
+all-at P [] d i a h = absurd (omega arith)
+all-at P (x ∷ xs) d zero a h = a .0
+all-at P (x ∷ xs) d (suc i) a h = all-at P xs d i (a .1) (omega arith)
+
+pub all-from : {A : Type 0} (P : A → Type 0) (xs : List A) (d : A) → ((i : ℕ) → i < length xs → P (getD xs i d)) → All P xs
+all-from P [] d h = tt
+all-from P (x ∷ xs) d h = (h 0 (omega arith), all-from P xs d (λ i l. h (suc i) (omega arith)))
+
+module _ (w : ℕ) (f : Report ℕ → List ℕ) where
+  -- they are w bytes for each report
+  pub pieces-length : (rs : List (Report ℕ)) → All (λ r. length (f r) ≡ w) rs → length (oneByOne f rs) ≡ w * length rs
+  unfolding oneByOne
+  pieces-length [] a = sym (mul-zero w)
+  pieces-length (r ∷ rs) a = length-append (f r) (oneByOne f rs) ∙ ap₂ _+_ (a .0) (pieces-length rs (a .1)) ∙ omega (arith, mul-suc w (length rs))
+
+  -- the piece at place i is that of report i
+  pub piece-at : (rs : List (Report ℕ)) (d : Report ℕ) (i : ℕ) → All (λ r. length (f r) ≡ w) rs → i < length rs
+      → take w (drop (w * i) (oneByOne f rs)) ≡ f (getD rs i d)
+  unfolding oneByOne
+  piece-at [] d i a h = absurd (omega arith)
+  piece-at (r ∷ rs) d zero a h = rw (mul-zero w) (take-at (f r) (oneByOne f rs) w (a .0))
+  piece-at (r ∷ rs) d (suc i) a h =
+      let e : w * suc i ≡ w + w * i = omega (arith, mul-suc w i) in
+      rw (e, ← drop-drop (w * i) w, drop-at (f r) (oneByOne f rs) w (a .0)) (piece-at rs d i (a .1) (omega arith))

@@ -1,0 +1,89 @@
+-- Document 01, 'Sheet of examples': the marked examples as one table. Assumes nothing.
+use Prim.Native.Nat.{ℕ, _+_, _-_, _%_}
+use mathlib.Core.Path.{_≡_}
+use mathlib.Core.Bool.{Bool, true, false, cond}
+use mathlib.Core.List.{List, [], _∷_, _++_}
+use lib.ListN.{length, replicate}
+use Rattle.bits.specs.Strings.{Bits}
+use Rattle.bits.specs.Numbers.{little, fromLittle}
+use Rattle.bits.specs.Packing.{pack}
+use Rattle.bits.specs.Places.{putAt}
+use Rattle.calls.specs.Causes.{Outcome, accepted}
+use Rattle.group.specs.Modular.{p}
+use Rattle.point.specs.PublicShare.{publicShareLength, levelStart}
+use Rattle.tree.specs.Query.{query}
+use Rattle.idpf.specs.Key.{keyOutcome}
+use Rattle.idpf.specs.Share.{shareOutcome}
+
+-- A key of the sheet: the number of its expander, its string and its root seeds.
+pub record Key : Type 0 where
+  pub expander : ℕ
+  pub string : Bits
+  pub seed0 : List ℕ
+  pub seed1 : List ℕ
+
+-- what the key maker answers
+abbrev pub keyOf : Key → Outcome
+keyOf k = keyOutcome (length (k .string)) (k .expander) (pack (k .string)) (k .seed0) (k .seed1) (publicShareLength (length (k .string)))
+
+-- what server b answers at the prefix q when it is lent its seed and a public share
+abbrev pub answer : Key → List ℕ → Bool → Bits → Outcome
+answer k share b q = shareOutcome (length (k .string)) (k .expander) b (cond b (k .seed1) (k .seed0)) share (query (length q - 1) (q ∷ [])) 8
+
+-- the key's public share with x for the payload correction of its first level
+abbrev pub withPayload : Key → ℕ → List ℕ
+withPayload k x = putAt (keyOf k .written) (levelStart (length (k .string)) 0 + 16) (little 8 x)
+
+-- A row of the table.
+pub data Row : Type 0 where
+  -- a key, and its public share
+  publicShareOf : Key → List ℕ → Row
+  -- a key, a prefix, and the shares of server 0 and of server 1
+  sharesAt : Key → Bits → ℕ → ℕ → Row
+  -- a key, a prefix, and the total of both servers
+  totalAt : Key → Bits → ℕ → Row
+  -- a key, a prefix, a payload correction in place of the first, and the number that both servers return
+  payloadAt : Key → Bits → ℕ → ℕ → Row
+
+-- what a row says
+abbrev pub Holds : Row → Type 0
+Holds (publicShareOf k bytes) = keyOf k ≡ accepted bytes
+Holds (sharesAt k q x y) =
+    (answer k (keyOf k .written) false q ≡ accepted (little 8 x)) × (answer k (keyOf k .written) true q ≡ accepted (little 8 y))
+Holds (totalAt k q t) =
+    let server : Bool → Outcome = λ b. answer k (keyOf k .written) b q in
+    (server false .number ≡ 0) × (server true .number ≡ 0) × ((fromLittle (server false .written) + fromLittle (server true .written)) % p ≡ t)
+Holds (payloadAt k q x number) = (answer k (withPayload k x) false q .number ≡ number) × (answer k (withPayload k x) true q .number ≡ number)
+
+-- s0 all zero
+abbrev pub zeroSeed : List ℕ
+zeroSeed = replicate 16 0
+
+-- s1 first byte 01, the rest zero
+abbrev pub oneSeed : List ℕ
+oneSeed = 1 ∷ replicate 15 0
+
+-- expander 2, n = 1, string `1`
+abbrev pub keyA : Key
+keyA = record { expander = 2; string = true ∷ []; seed0 = zeroSeed; seed1 = oneSeed }
+
+-- A with both seeds zero
+abbrev pub keyH : Key
+keyH = record { expander = 2; string = true ∷ []; seed0 = zeroSeed; seed1 = zeroSeed }
+
+-- the marked examples
+abbrev pub table : List Row
+table =
+    -- A
+    publicShareOf keyA (1 ∷ (2 ∷ replicate 7 0) ++ (3 ∷ replicate 7 0) ++ (1 ∷ replicate 7 0))
+    -- B
+    ∷ sharesAt keyA (true ∷ []) 6 (p - 5)
+    -- C
+    ∷ sharesAt keyA (false ∷ []) 5 (p - 5)
+    -- H
+    ∷ totalAt keyH (true ∷ []) 1
+    ∷ totalAt keyH (false ∷ []) 0
+    -- I
+    ∷ payloadAt keyA (true ∷ []) (p - 1) 0
+    ∷ payloadAt keyA (true ∷ []) p 6
+    ∷ []

@@ -1,0 +1,15 @@
+pub mod Nodes
+pub mod Descent
+pub mod Lent
+pub mod LentPrefix
+pub mod KeyLevel
+pub mod KeyControl
+pub mod KeyWriting
+pub mod KeyMaker
+pub mod KeyCauses
+pub mod KeyTheorems
+pub mod ShareChecks
+pub mod ShareJudged
+pub mod ShareOutcome
+pub mod ShareSums
+pub mod ShareDue

@@ -1,0 +1,91 @@
+-- `idpf::shares::write_sums` meets its contract. The loop's invariant: the sums at the prefixes passed are written, and the rest is as it was.
+-- Assumes nothing.
+use Prim.Native.Nat.{_*_, _-_, _≤_}
+use native.Mathlib.Omega.{arith}
+use borrow.Author.Needs.{needs}
+use Rattle.bits.proofs.Places.{Grown}
+use Rattle.query.proofs.Ready.{ready}
+use Rattle.idpf.proofs.ShareSums.{all, left, sums-start, sums-more, sums-length, sums-end}
+use Rattle.idpf.proofs.shares.write_sums.Statement.{statement}
+use Rattle.idpf.proofs.shares.write_sums.Tie as tie
+
+abbrev Inv-loop : tie.InvT-loop
+Inv-loop e n server seeds shares query out₀ k count i₀ out i =
+    (i ≤ count) × Grown out₀ 0 out (8 * i) (left e n server seeds shares query i) (all e n server seeds shares query)
+
+abbrev μ-loop : tie.MeasureT-loop
+μ-loop e n server seeds shares query out₀ k count i₀ out i = count - i
+
+prefix-length-requires : tie.Need-prefix-length-requires Inv-loop μ-loop
+prefix-length-requires c κs = search needs
+
+cast-k : tie.Need-cast-k Inv-loop μ-loop
+cast-k c =
+    let s = c .before .before .before .before .before in
+    omega (arith, c .prefix-length .ensures .0, ready (s .args .n) (s .args .query .now) (s .pre .0) .not-longer)
+
+prefix-count-requires : tie.Need-prefix-count-requires Inv-loop μ-loop
+prefix-count-requires c κs = search needs
+
+loop-holds : tie.Need-loop-holds Inv-loop μ-loop
+loop-holds c =
+    let s = c .before .before .before .before .before .before in
+    let a = s .args in
+    (omega arith, sums-start (a .e) (a .n) (a .server) (a .seeds .now) (a .shares .now) (a .query .now) (s .pre .0) (a .out .now) (s .pre .1))
+
+write-sum-requires : tie.Need-write-sum-requires Inv-loop μ-loop
+write-sum-requires c κs = omega (arith, c .before .before .before .prefix-count .ensures .1)
+
+add-i : tie.Need-add-i Inv-loop μ-loop
+add-i c = omega arith
+
+loop-less : tie.Need-loop-less Inv-loop μ-loop
+loop-less c = omega arith
+
+loop-again : tie.Need-loop-again Inv-loop μ-loop
+loop-again c =
+    let w = c .before .before in
+    let t = w .before .before in
+    let l = t .before in
+    let h = l .before in
+    let s = h .before .before .before .before .before .before in
+    let a = s .args in (
+      omega arith,
+      sums-more (a .e) (a .n) (a .server) (a .seeds .now) (a .shares .now) (a .query .now) (s .pre .0) (a .out .now) (s .pre .1) (l .loop .out) _
+          (l .loop .i) (h .before .prefix-length .result) (omega (arith, t .loop-test .taken, h .prefix-count .ensures .0)) (h .before .prefix-length .ensures .0)
+          (l .loop .inv .1) (w .write-sum .ensures),
+    )
+
+same-length : tie.Need-same-length Inv-loop μ-loop
+same-length c =
+    let l = c .before in
+    let s = l .before .before .before .before .before .before .before in
+    let a = s .args in
+    sums-length (a .e) (a .n) (a .server) (a .seeds .now) (a .shares .now) (a .query .now) (s .pre .0) (a .out .now) (s .pre .1) (l .loop .out) (l .loop .i)
+    (l .loop .inv .1)
+
+returns : tie.Need-returns Inv-loop μ-loop
+returns c =
+    let l = c .before in
+    let h = l .before in
+    let s = h .before .before .before .before .before .before in
+    let a = s .args in
+    sums-end (a .e) (a .n) (a .server) (a .seeds .now) (a .shares .now) (a .query .now) (s .pre .0) (a .out .now) (s .pre .1) (l .loop .out) (l .loop .i)
+    (omega (arith, c .loop-test .left, h .prefix-count .ensures .0)) (l .loop .inv .1)
+
+pub write-sums-spec : {M : Type 1} → statement M
+write-sums-spec =
+    tie.close
+    (tie.spec
+    Inv-loop
+    μ-loop
+    prefix-length-requires
+    cast-k
+    prefix-count-requires
+    loop-holds
+    write-sum-requires
+    add-i
+    loop-less
+    loop-again
+    same-length
+    returns)

@@ -1,0 +1,21 @@
+-- `idpf::walk::descend` meets its contract. Assumes nothing.
+use Rattle.idpf.specs.Layout.{nodeOf, correctionOf}
+use Rattle.idpf.proofs.Descent.{descend-block}
+use borrow.Author.Needs.{needs}
+use Rattle.idpf.proofs.walk.descend.Statement.{statement}
+use Rattle.idpf.proofs.walk.descend.Tie as tie
+
+corrected-child-requires : tie.Need-corrected-child-requires
+corrected-child-requires c κs = search needs
+
+block-requires : tie.Need-block-requires
+block-requires c κs = search needs
+
+returns : tie.Need-returns
+returns c =
+    let h = c .before .before in
+    let a = h .before .args in
+    descend-block (a .e) (correctionOf (a .c)) (a .x) (nodeOf (a .m)) (nodeOf (h .corrected-child .result)) (h .corrected-child .ensures) (c .block .ensures)
+
+pub descend-spec : {M : Type 1} → statement M
+descend-spec = tie.close (tie.spec corrected-child-requires block-requires returns)

@@ -1,0 +1,4 @@
+pub mod Layout
+pub mod Key
+pub mod Reports
+pub mod Share

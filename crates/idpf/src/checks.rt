@@ -1,0 +1,94 @@
+// The tests of causes 6 and 7 on lent public shares.
+use crate::layout::public_share_length;
+use crate::reports::report_count;
+ghost use mathlib.Core.Path.{_≡_};
+ghost use mathlib.Core.Bool.{not};
+ghost use Prim.Native.Nat.{_+_, _≤_};
+ghost use lib.ListN.{length, take, drop};
+ghost use lib.Dec.{ltb};
+ghost use Rattle.group.specs.Modular.{p};
+ghost use Rattle.point.specs.PublicShare.{publicShareLength, readCorrection, payloadsBelow, spareBitsZero};
+ghost use Rattle.idpf.specs.Share.{payloadTooLarge, spareBitsSet};
+
+// Whether the payload correction of level k, of n, is below p.
+fn payload_below(n: u16, share: &[u8], k: u16) -> bool
+    ensures { λ r. ⌜ r ≡ ltb (readCorrection n (now (share .entry)) k .payload) p ⌝ }
+{
+    let start = (n as usize + 3) / 4 + 24 * (k as usize);
+    bits::numbers::read_le8(share, start + 16) < group::P
+}
+
+// Whether the payload corrections of all n levels are below p.
+pub(crate) fn payloads_below(n: u16, share: &[u8]) -> bool
+    ensures { λ r. ⌜ r ≡ payloadsBelow p n (now (share .entry)) ⌝ }
+{
+    let mut k = 0;
+    while k < n {
+        if !payload_below(n, share, k) {
+            return false;
+        }
+        k += 1;
+    }
+    true
+}
+
+// Whether the spare bits of the last control byte of n levels are zero.
+pub(crate) fn spare_bits_zero(n: u16, share: &[u8]) -> bool
+    ensures { λ r. ⌜ r ≡ spareBitsZero n (now (share .entry)) ⌝ }
+{
+    let m = n as usize;
+    if m % 4 == 0 {
+        return true;
+    }
+    bits::numbers::byte_at(share, m / 4) >> (2 * (m % 4)) == 0
+}
+
+// The payload test of the public share that starts at place `at`.
+fn payloads_below_at(n: u16, shares: &[u8], at: usize) -> bool
+    requires { ⌜ at + publicShareLength n ≤ length (now shares) ⌝ }
+    ensures { λ r. ⌜ r ≡ payloadsBelow p n (take (publicShareLength n) (drop at (now (shares .entry)))) ⌝ }
+{
+    let end = at + public_share_length(n);
+    payloads_below(n, &shares[at..end])
+}
+
+// The spare bits test of the public share that starts at place `at`.
+fn spare_bits_zero_at(n: u16, shares: &[u8], at: usize) -> bool
+    requires { ⌜ at + publicShareLength n ≤ length (now shares) ⌝ }
+    ensures { λ r. ⌜ r ≡ spareBitsZero n (take (publicShareLength n) (drop at (now (shares .entry)))) ⌝ }
+{
+    let end = at + public_share_length(n);
+    spare_bits_zero(n, &shares[at..end])
+}
+
+// Whether all payload corrections of every lent public share are below p.
+pub(crate) fn all_payloads_below(n: u16, seeds: &[u8], shares: &[u8]) -> bool
+    ensures { λ r. ⌜ r ≡ not (payloadTooLarge n (now (seeds .entry)) (now (shares .entry))) ⌝ }
+{
+    let size = public_share_length(n);
+    let count = report_count(n, seeds, shares);
+    let mut i = 0;
+    while i < count {
+        if !payloads_below_at(n, shares, size * i) {
+            return false;
+        }
+        i += 1;
+    }
+    true
+}
+
+// Whether the spare bits of every lent public share are zero.
+pub(crate) fn all_spare_bits_zero(n: u16, seeds: &[u8], shares: &[u8]) -> bool
+    ensures { λ r. ⌜ r ≡ not (spareBitsSet n (now (seeds .entry)) (now (shares .entry))) ⌝ }
+{
+    let size = public_share_length(n);
+    let count = report_count(n, seeds, shares);
+    let mut i = 0;
+    while i < count {
+        if !spare_bits_zero_at(n, shares, size * i) {
+            return false;
+        }
+        i += 1;
+    }
+    true
+}

@@ -1,0 +1,13 @@
+// The incremental distributed point function: the key maker, and a server's share for a query.
+mod checks;
+mod keys;
+mod layout;
+mod level;
+mod node;
+mod reports;
+mod shares;
+mod walk;
+
+pub use keys::make_key;
+pub use reports::server_sum;
+pub use shares::share;

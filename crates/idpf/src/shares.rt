@@ -1,0 +1,147 @@
+// The call `share`: a server's share for a query.
+use crate::checks::all_payloads_below;
+use crate::checks::all_spare_bits_zero;
+use crate::layout::public_share_length;
+use crate::reports::server_sum;
+use calls::Reply;
+use expander::Choice;
+use expander::Expander;
+ghost use mathlib.Core.Path.{_≡_};
+ghost use mathlib.Core.Bool.{true};
+ghost use mathlib.Core.List.{[]};
+ghost use Prim.Native.Nat.{_*_, _≤_, _<_};
+ghost use lib.ListN.{length};
+ghost use Rattle.bits.specs.Numbers.{little};
+ghost use Rattle.bits.specs.Places.{putAt, overlay};
+ghost use Rattle.calls.specs.Causes.{judged};
+ghost use Rattle.tree.specs.Query.{isQuery, prefixCount};
+ghost use Rattle.query.specs.Prefix.{packedPrefix};
+ghost use Rattle.idpf.specs.Reports.{packedBit, serverSum};
+ghost use Rattle.idpf.specs.Share.{wrongLengths, shareCauses, shareBytes, shareOutcome};
+
+// Whether the seeds or the public shares have the wrong length, or disagree in count.
+fn wrong_lengths(n: u16, seeds: &[u8], shares: &[u8]) -> bool
+    requires { ⌜ 0 < n ⌝ }
+    ensures { λ r. ⌜ r ≡ wrongLengths n (now (seeds .entry)) (now (shares .entry)) ⌝ }
+{
+    let size = public_share_length(n);
+    if seeds.len() % 16 != 0 {
+        return true;
+    }
+    if shares.len() % size != 0 {
+        return true;
+    }
+    seeds.len() / 16 != shares.len() / size
+}
+
+// The number of the first cause that applies, or 0.
+fn share_cause(n: u64, expander: u64, seeds: &[u8], shares: &[u8], query: &[u8], room: usize) -> u64
+    ensures { λ r. ⌜ r ≡ judged (shareCauses n expander (now (seeds .entry)) (now (shares .entry)) (now (query .entry)) room) [] .number ⌝ }
+{
+    if n < 1 {
+        return 1;
+    }
+    if 256 < n {
+        return 1;
+    }
+    if !expander::is_expander(expander) {
+        return 3;
+    }
+    let levels = n as u16;
+    if wrong_lengths(levels, seeds, shares) {
+        return 4;
+    }
+    if 65535 < seeds.len() / 16 {
+        return 5;
+    }
+    let payloads = all_payloads_below(levels, seeds, shares);
+    let spares = all_spare_bits_zero(levels, seeds, shares);
+    if !payloads {
+        return 6;
+    }
+    if !spares {
+        return 7;
+    }
+    if !query::is_query(n, query) {
+        return 9;
+    }
+    if room < 8 * query::prefix_count(query) {
+        return 11;
+    }
+    0
+}
+
+// The sum at prefix i of the query, of k bits, into its 8 places.
+fn write_sum(
+    e: Expander,
+    n: u16,
+    server: bool,
+    seeds: &[u8],
+    shares: &[u8],
+    query: &[u8],
+    k: u16,
+    i: usize,
+    out: &mut [u8],
+)
+    requires { ⌜ i < 4294967296 ⌝ }
+    ensures { λ _. ⌜ now (out .exit) ≡ putAt (now (out .entry)) (8 * i) (little 8 (serverSum e n server (now (seeds .entry)) (now (shares .entry)) (packedBit (packedPrefix (now (query .entry)) i)) k)) ⌝ }
+{
+    let sum = server_sum(e, n, server, seeds, shares, query::prefix_at(query, i), k);
+    bits::numbers::write_le8(out, 8 * i, sum);
+}
+
+// The sums at all prefixes of the query, in order.
+fn write_sums(
+    e: Expander,
+    n: u16,
+    server: bool,
+    seeds: &[u8],
+    shares: &[u8],
+    query: &[u8],
+    out: &mut [u8],
+)
+    requires { ⌜ (isQuery n (now query) ≡ true) × (8 * prefixCount (now query) ≤ length (now out)) ⌝ }
+    ensures { λ _. ⌜ now (out .exit) ≡ overlay (shareBytes n server (now (seeds .entry)) (now (shares .entry)) (now (query .entry)) e) (now (out .entry)) ⌝ }
+{
+    let k = query::prefix_length(query) as u16;
+    let count = query::prefix_count(query);
+    let mut i = 0;
+    while i < count {
+        write_sum(e, n, server, seeds, shares, query, k, i, out);
+        i += 1;
+    }
+}
+
+// Writes a server's share for a query: for each prefix in order the sum over all lent reports; refuses with 1, 3, 4, 5, 6, 7, 9 or 11.
+pub fn share(
+    n: u64,
+    expander: u64,
+    server: bool,
+    seeds: &[u8],
+    public_shares: &[u8],
+    query: &[u8],
+    out: &mut [u8],
+) -> Reply
+    ensures number { λ r. ⌜ r .number ≡ shareOutcome n expander server (now (seeds .entry)) (now («public_shares» .entry)) (now (query .entry)) (length (now (out .entry))) .number ⌝ }
+    ensures written { λ r. ⌜ r .length ≡ length (shareOutcome n expander server (now (seeds .entry)) (now («public_shares» .entry)) (now (query .entry)) (length (now (out .entry))) .written) ⌝ }
+    ensures space { λ r. ⌜ now (out .exit) ≡ overlay (shareOutcome n expander server (now (seeds .entry)) (now («public_shares» .entry)) (now (query .entry)) (length (now (out .entry))) .written) (now (out .entry)) ⌝ }
+{
+    let number = share_cause(n, expander, seeds, public_shares, query, out.len());
+    if number != 0 {
+        return Reply { number, length: 0 };
+    }
+    match expander::choose(expander) {
+        Choice::Known(e) => {
+            write_sums(e, n as u16, server, seeds, public_shares, query, out);
+            let count = query::prefix_count(query);
+            Reply {
+                number: 0,
+                length: 8 * (count as u64),
+            }
+        }
+        Choice::Unknown => Reply {
+            number: 3,
+            length: 0,
+        },
+    }
+}
