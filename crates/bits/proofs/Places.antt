@@ -6,7 +6,7 @@ use native.Mathlib.Omega.{arith}
 use mathlib.Core.Bool.{Bool, true, false}
 use mathlib.Core.List.{List, [], _++_, append-assoc, append-nil}
 use lib.ListN.{length, getD, take, drop, replicate, length-append, length-drop, length-replicate, getD-replicate, take-append-drop, drop-of-length-le, List·getD-eq-default}
-use lib.Seq.{take-at, take-add, drop-append-add, drop-drop, length-take-le, getD-take, getD-drop}
+use lib.Seq.{take-at, take-all, take-add, drop-append-add, drop-drop, length-take-le, getD-take, getD-drop}
 use lib.Dec.{leb}
 use borrow.Author.Tests.{le-leb, lt-leb, leb-true, leb-false}
 use Rattle.bits.specs.Numbers.{Bytes}
@@ -65,6 +65,10 @@ window-bytes n at l byte = record { size = window-length n at l; byte = all }
             let past : length (window n at l) ≤ i = rw (window-length n at l) (leb-true n i e) in
             rw (List·getD-eq-default (window n at l) 0 past) (omega arith)
         go false e = window-byte n at l byte i (leb-false n i e)
+
+-- what is read from the beginning on, as many as there are, is the whole
+pub window-whole : (n : ℕ) (l : List ℕ) → length l ≡ n → window n 0 l ≡ l
+window-whole n l e = window-inside n 0 l (omega arith) ∙ take-all n l (omega arith)
 
 -- ---- putting
 

@@ -1,19 +1,47 @@
--- Spare bits, byte by byte: a remainder tests those in the byte that holds bit n, and all bytes after it are zero. Assumes nothing.
+-- Spare bits: what it is that one of them is set; and byte by byte: a remainder tests those in the byte that holds bit n, and all bytes after
+-- it are zero. Assumes nothing.
 use Prim.Native.Nat.{ℕ, zero, suc, _+_, _-_, _*_, _/_, _%_, _^_, _≤_, _<_}
 use native.Mathlib.Omega.{arith}
 use native.Mathlib.Nat.{mod-eq-of-lt, pow-succ', suc-add, zero-add}
 use lib.Pow.{pow-pos, pow-add, shl-shr}
 use lib.Arith.{mod-mul}
 use mathlib.Core.Path.{_≡_, refl, sym, ap, _∙_}
-use mathlib.Core.Bool.{true, false, _&&_, not}
+use mathlib.Core.Logic.{_↔_}
+use mathlib.Core.Bool.{true, false, _&&_, not, true≢false}
 use mathlib.Core.List.{List, [], _∷_, _++_}
 use borrow.Author.Tests.{eq-eqb, ne-eqb}
 use lib.ListN.{length, getD, drop, drop-of-length-le}
-use lib.Seq.{drop-cons, drop-drop, drop-append-le, drop-append-add, drop-nil}
+use lib.Seq.{getD-drop, drop-cons, drop-drop, drop-append-le, drop-append-add, drop-nil}
 use lib.Dec.{eqb}
 use Rattle.bits.specs.Strings.{Bits}
 use Rattle.bits.specs.Packing.{digits, bitsOf, isZero, spareZero}
 use Rattle.bits.proofs.Packed.{digits-length, bitsOf-length}
+
+-- ---- a bit that is set
+
+-- bits that are not all zero have one that is set
+pub not-zero : (s : Bits) → isZero s ≡ false → (i : ℕ) × (getD s i false ≡ true)
+not-zero [] e = absurd (true≢false e)
+not-zero (true ∷ s) e = (0, refl)
+not-zero (false ∷ s) e = let w = not-zero s e in (suc (w .0), w .1)
+
+pub one-set : (s : Bits) (i : ℕ) → getD s i false ≡ true → isZero s ≡ false
+one-set [] i e = sym e
+one-set (true ∷ s) i e = refl
+one-set (false ∷ s) zero e = absurd (true≢false (sym e))
+one-set (false ∷ s) (suc i) e = one-set s i e
+
+-- the spare bits are not all zero exactly when a bit past the n-th is set
+pub spare-set : (n : ℕ) (s : List ℕ) → (spareZero n s ≡ false) ↔ ((i : ℕ) × (n ≤ i) × (getD (bitsOf s) i false ≡ true))
+unfolding spareZero
+spare-set n s = (
+  (λ h. let w = not-zero (drop n (bitsOf s)) h in (n + w .0, omega arith, sym (getD-drop n (bitsOf s) (w .0) false) ∙ w .1)),
+  (λ h.
+      let e : n + (h .0 - n) ≡ h .0 = omega (arith, h .1) in
+      one-set (drop n (bitsOf s)) (h .0 - n) (getD-drop n (bitsOf s) (h .0 - n) false ∙ rw e (h .2))),
+)
+
+-- ---- a part of the bits, as a remainder
 
 zero-append : (p q : Bits) → isZero (p ++ q) ≡ (isZero p && isZero q)
 zero-append [] q = refl

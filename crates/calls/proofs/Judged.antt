@@ -1,12 +1,17 @@
--- Where tests decide the clauses one by one, the number of the outcome is the one that is due, and no other is. Assumes nothing.
-use Prim.Native.Nat.{ℕ}
+-- Where tests decide the clauses one by one, the number of the outcome is the one that is due, and no other is; what a refusal and a success
+-- write. Assumes nothing.
+use Prim.Native.Nat.{ℕ, _≤_}
+use native.Mathlib.Omega.{arith}
 use mathlib.Core.Path.{_≡_, refl, sym, _∙_}
 use mathlib.Core.Bool.{Bool, true, false, cond}
 use mathlib.Core.List.{List, [], _∷_}
-use mathlib.Core.Logic.{_⊎_, inl, inr, ⊎-elim}
+use mathlib.Core.Logic.{inl, inr}
 use lib.Dec.{T}
-use Rattle.calls.specs.Causes.{Cause, cause, judged}
+use Rattle.bits.specs.Lists.{All}
+use Rattle.calls.specs.Causes.{Cause, cause, refused, accepted, judged}
 use Rattle.calls.specs.Clauses.{Clause, clause, Due}
+
+-- ---- the number that is due
 
 -- each test is true exactly when its clause applies
 pub data Decided : List Clause → List Cause → Type 1 where
@@ -29,3 +34,45 @@ due-unique (c ∷ cs) (inl p) (inl q) = p .1 ∙ sym (q .1)
 due-unique (c ∷ cs) (inl p) (inr q) = absurd (q .0 (p .0))
 due-unique (c ∷ cs) (inr p) (inl q) = absurd (p .0 (q .0))
 due-unique (c ∷ cs) (inr p) (inr q) = due-unique cs (p .1) (q .1)
+
+-- ---- outcomes
+
+-- whatever would be written, the number is the same
+pub judged-number : (cs : List Cause) (xs ys : List ℕ) → judged cs xs .number ≡ judged cs ys .number
+judged-number [] xs ys = refl
+judged-number (c ∷ cs) xs ys = go (c .applies) (judged-number cs xs ys)
+  where
+    go : (b : Bool) → judged cs xs .number ≡ judged cs ys .number
+        → cond b (refused (c .number)) (judged cs xs) .number ≡ cond b (refused (c .number)) (judged cs ys) .number
+    go true h = refl
+    go false h = h
+
+-- a number that is not 0 refuses
+pub judged-refused : (cs : List Cause) (bytes : List ℕ) → (judged cs bytes .number ≡ 0 → ⊥) → judged cs bytes .written ≡ []
+judged-refused [] bytes h = absurd (h refl)
+judged-refused (c ∷ cs) bytes h = go (c .applies) h (judged-refused cs bytes)
+  where
+    go : (b : Bool) → (cond b (refused (c .number)) (judged cs bytes) .number ≡ 0 → ⊥) → ((judged cs bytes .number ≡ 0 → ⊥) → judged cs bytes .written ≡ [])
+        → cond b (refused (c .number)) (judged cs bytes) .written ≡ []
+    go true h f = refl
+    go false h f = f h
+
+-- where no cause applies, the call succeeds
+pub judged-accepted : (cs : List Cause) (bytes : List ℕ) → All (λ c. c .applies ≡ false) cs → judged cs bytes ≡ accepted bytes
+judged-accepted [] bytes h = refl
+judged-accepted (c ∷ cs) bytes h = rw (h .0) (judged-accepted cs bytes (h .1))
+
+-- where causes are numbered from 1 on, 0 says that none applies
+pub judged-clear : (cs : List Cause) (bytes : List ℕ) → All (λ c. 1 ≤ c .number) cs → judged cs bytes .number ≡ 0 → All (λ c. c .applies ≡ false) cs
+judged-clear [] bytes l h = tt
+judged-clear (c ∷ cs) bytes l h = go (c .applies) h (judged-clear cs bytes (l .1))
+  where
+    go : (b : Bool) → cond b (refused (c .number)) (judged cs bytes) .number ≡ 0 → (judged cs bytes .number ≡ 0 → All (λ c. c .applies ≡ false) cs)
+        → (b ≡ false) × All (λ c. c .applies ≡ false) cs
+    go true h f = absurd (omega (arith, l .0))
+    go false h f = (refl, f h)
+
+-- facts of the elements of a list, one by one
+infixr 40 _&_
+pub _&_ : {A B : Type 0} → A → B → A × B
+a & b = (a, b)

@@ -12,10 +12,13 @@ use Rattle.bits.specs.Numbers.{Bytes}
 use Rattle.bits.specs.Packing.{packedLength, pack, unpack, spareZero}
 use Rattle.bits.proofs.Packed.{pack-length, unpack-pack, pack-spareZero}
 use Rattle.calls.specs.Causes.{Outcome, accepted}
+use Rattle.calls.proofs.Decisions.{neither-test, length-inside}
+use Rattle.calls.proofs.Judged.{judged-accepted, _&_}
 use Rattle.expander.specs.Expander.{choiceOf, under}
 use Rattle.expander.specs.declared.Expander.{Expander}
 use Rattle.expander.specs.declared.Choice.{Choice}
 use Rattle.expander.specs.declared.Choice.the-variants.{Known}
+use Rattle.expander.proofs.Chosen.{known}
 use Rattle.group.specs.Modular.{p}
 use Rattle.point.specs.Keys.{keyCorrection}
 use Rattle.point.specs.Share.{bitOf}
@@ -26,7 +29,6 @@ use Rattle.point.proofs.Honest.{report-bytes, report-passes}
 use Rattle.point.proofs.Instance.{scheme-lawful, p-fits}
 use Rattle.idpf.specs.Key.{keyCauses, keyBytes, keyOutcome}
 use Rattle.demands.specs.Honest.{Honest, oneByOne, lentShares}
-use Rattle.demands.proofs.Accepted.{_&_, none-applies, neither, length-inside, expander-named}
 
 -- Any string of n bits and any two seeds of 16 bytes make an honest report.
 pub honest-report : {n : ℕ} {string : Bits} {seed0 seed1 : List ℕ} → length string ≡ n → Bytes 16 seed0 → Bytes 16 seed1
@@ -50,10 +52,10 @@ module _ (e : Expander) (n : ℕ) (r : Report ℕ) (honest : Honest n r) where
       let size : length (pack (r .string)) ≡ packedLength n = pack-length (r .string) ∙ ap packedLength (honest .made .bits) in
       let spare : spareZero n (pack (r .string)) ≡ true = ap (λ (m : ℕ). spareZero m (pack (r .string))) (sym (honest .made .bits)) ∙ pack-spareZero (r .string) in
       let lengths =
-      neither (ap not (eq-eqb (length (pack (r .string))) (packedLength n) size))
-      (neither (ap not (eq-eqb (length (r .seed0)) 16 (honest .made .sized0 .size))) (ap not (eq-eqb (length (r .seed1)) 16 (honest .made .sized1 .size)))) in
-      none-applies (keyCauses n number (pack (r .string)) (r .seed0) (r .seed1) room) _
-      (length-inside n from to & expander-named number e named & lengths & ap not spare & le-ltb room (publicShareLength n) fits & tt)
+      neither-test (ap not (eq-eqb (length (pack (r .string))) (packedLength n) size))
+      (neither-test (ap not (eq-eqb (length (r .seed0)) 16 (honest .made .sized0 .size))) (ap not (eq-eqb (length (r .seed1)) 16 (honest .made .sized1 .size)))) in
+      judged-accepted (keyCauses n number (pack (r .string)) (r .seed0) (r .seed1) room) _
+      (length-inside n from to & ap not (known number e named) & lengths & ap not spare & le-ltb room (publicShareLength n) fits & tt)
       ∙ ap accepted (ap (λ (c : Choice). under c (keyBytes n (pack (r .string)) (r .seed0) (r .seed1))) named ∙ key-bytes)
 
   -- What it writes has the length of a public share, its payload corrections are below p, and its spare bits are zero.

@@ -15,10 +15,13 @@ use Rattle.bits.proofs.Packed.{unpack-length}
 use Rattle.bits.proofs.Places.{window-length}
 use Rattle.calls.specs.Bounds.{mostReports}
 use Rattle.calls.specs.Causes.{accepted}
+use Rattle.calls.proofs.Decisions.{neither-test, length-inside}
+use Rattle.calls.proofs.Judged.{judged-accepted, _&_}
 use Rattle.expander.specs.Expander.{choiceOf, under}
 use Rattle.expander.specs.declared.Expander.{Expander}
 use Rattle.expander.specs.declared.Choice.{Choice}
 use Rattle.expander.specs.declared.Choice.the-variants.{Known}
+use Rattle.expander.proofs.Chosen.{known}
 use Rattle.group.specs.Modular.{p}
 use Rattle.point.specs.PublicShare.{publicShareLength, payloadsBelow, spareBitsZero}
 use Rattle.point.specs.Totals.{Report, strings, reportPublicShare}
@@ -31,7 +34,6 @@ use Rattle.tree.proofs.Queries.{parts-length, prefix-at}
 use Rattle.idpf.specs.Reports.{reportCount, publicShareAt}
 use Rattle.idpf.specs.Share.{wrongLengths, payloadTooLarge, spareBitsSet, shareCauses, shareBytes, shareOutcome}
 use Rattle.demands.specs.Honest.{Honest, lentSeeds, lentShares, sumAt}
-use Rattle.demands.proofs.Accepted.{_&_, none-applies, neither, length-inside, expander-named}
 use Rattle.demands.proofs.Pieces.{all-at, all-from}
 use Rattle.demands.proofs.Keys.{key-passes}
 use Rattle.demands.proofs.Sums.{shares-length, shares-number, seeds-length, seeds-number, lent-count, lent-public, sums-count}
@@ -67,8 +69,8 @@ module _ (e : Expander) (number : ℕ) (named : choiceOf number ≡ Known e) (n 
       let seeds : length (lentSeeds b rs) % 16 ≡ 0 = omega (arith, seeds-length e n from rs honest b) in
       let shares : length (lentShares e n rs) % publicShareLength n ≡ 0 =
       ap (λ (l : ℕ). l % publicShareLength n) (shares-length e n from rs honest) ∙ mul-mod-right (publicShareLength n) (length rs) in
-      neither (ap not (eq-eqb _ 0 seeds))
-      (neither (ap not (eq-eqb _ 0 shares)) (ap not (eq-eqb _ _ (seeds-number e n from rs honest b ∙ sym (shares-number e n from rs honest)))))
+      neither-test (ap not (eq-eqb _ 0 seeds))
+      (neither-test (ap not (eq-eqb _ 0 shares)) (ap not (eq-eqb _ _ (seeds-number e n from rs honest b ∙ sym (shares-number e n from rs honest)))))
 
   -- a test that every report's public share passes, every lent one does
   lent-pass : (b : Bool) (test : List ℕ → Bool) → All (λ r. test (reportPublicShare (scheme e) n r) ≡ true) rs → (i : ℕ)
@@ -88,8 +90,8 @@ module _ (e : Expander) (number : ℕ) (named : choiceOf number ≡ Known e) (n 
       ap not (every-true _ _ (lent-pass b (payloadsBelow p n) (all-map (Honest n) _ (λ r h. key-passes e n r h .1) rs honest))) in
       let spare : spareBitsSet n (lentSeeds b rs) (lentShares e n rs) ≡ false =
       ap not (every-true _ _ (lent-pass b (spareBitsZero n) (all-map (Honest n) _ (λ r h. key-passes e n r h .2) rs honest))) in
-      none-applies (shareCauses n number (lentSeeds b rs) (lentShares e n rs) query room) _
-      (length-inside n from to & expander-named number e named & lent-lengths b & le-ltb mostReports _ reports
+      judged-accepted (shareCauses n number (lentSeeds b rs) (lentShares e n rs) query room) _
+      (length-inside n from to & ap not (known number e named) & lent-lengths b & le-ltb mostReports _ reports
       & numbers & spare & ap not asks & le-ltb room (8 * prefixCount query) fits & tt)
       ∙ ap (λ (c : Choice). accepted (under c (shareBytes n b (lentSeeds b rs) (lentShares e n rs) query))) named
 

@@ -1,24 +1,24 @@
 -- `make_key` returns the number that is due, and what it writes passes a server's tests. Assumes nothing.
 use mathlib.Core.Path.{_≡_, refl, sym, _∙_}
-use mathlib.Core.Bool.{Bool, true, false, not, true≢false, _||_}
+use mathlib.Core.Bool.{Bool, true, not, true≢false, _||_}
 use mathlib.Core.List.{List}
-use mathlib.Core.Logic.{_≢_, _⊎_, inl, inr}
 use Prim.Native.Nat.{ℕ, _<_}
 use native.Mathlib.Omega.{arith}
-use borrow.Author.Tests.{eq-eqb}
 use lib.ListN.{length, getD}
-use lib.Dec.{T, eqb, ltb, eqb→eq, ltb→lt, lt→ltb, not-T, T-not}
+use lib.Dec.{eqb, ltb, ltb→lt, lt→ltb}
 use Rattle.bits.specs.Numbers.{Bytes}
 use Rattle.bits.specs.Packing.{packedLength, unpack, spareZero}
 use Rattle.bits.proofs.Packed.{unpack-length}
+use Rattle.bits.proofs.Spare.{spare-set}
 use Rattle.calls.specs.Bounds.{lengthOutside}
 use Rattle.calls.specs.Clauses.{Due}
+use Rattle.calls.proofs.Decisions.{failed, failed-test, differ, differ-test, either, either-test, outside, outside-test}
 use Rattle.calls.proofs.Judged.{due, none, next}
 use Rattle.expander.specs.Expander.{choiceOf, isExpander}
 use Rattle.expander.specs.declared.Expander.{Expander}
 use Rattle.expander.specs.declared.Choice.{Choice}
 use Rattle.expander.specs.declared.Choice.the-variants.{Known, Unknown}
-use Rattle.expander.proofs.Chosen.{unknown}
+use Rattle.expander.proofs.Chosen.{unknown, unnamed, unnamed-test}
 use Rattle.group.specs.Modular.{p}
 use Rattle.point.specs.PublicShare.{publicShareLength, payloadsBelow, spareBitsZero}
 use Rattle.point.specs.Totals.{Report, Made, reportCorrection, reportPublicShare}
@@ -30,56 +30,19 @@ use Rattle.idpf.proofs.KeyCauses.{Ready, ready, key-accepted}
 
 -- ---- the number is due
 
-module _ {P Q : Type 0} where
-  or-sound : (a b : Bool) → (T a → P) → (T b → Q) → T (a || b) → P ⊎ Q
-  or-sound true b f g t = inl (f tt)
-  or-sound false b f g t = inr (g t)
-
-  or-complete : (a b : Bool) → (P → T a) → (Q → T b) → P ⊎ Q → T (a || b)
-  or-complete true b f g h = tt
-  or-complete false b f g (inl h) = absurd (f h)
-  or-complete false b f g (inr h) = g h
-
-differ-sound : (x y : ℕ) → T (not (eqb x y)) → x ≢ y
-differ-sound x y t q = T-not (eqb x y) t (rw (eq-eqb x y q) tt)
-
-differ-complete : (x y : ℕ) → x ≢ y → T (not (eqb x y))
-differ-complete x y n = not-T (eqb x y) (λ t. n (eqb→eq x y t))
-
-neither-sound : (x y z : ℕ) → T (not (eqb x y || eqb x z)) → (x ≢ y) × (x ≢ z)
-neither-sound x y z = go (eqb x y) (eqb x z) (λ q. rw (eq-eqb x y q) tt) (λ q. rw (eq-eqb x z q) tt)
-  where
-    go : (a b : Bool) → (x ≡ y → T a) → (x ≡ z → T b) → T (not (a || b)) → (x ≢ y) × (x ≢ z)
-    go true b f g t = absurd t
-    go false b f g t = (f, λ q. T-not b t (g q))
-
-neither-complete : (x y z : ℕ) → (x ≢ y) × (x ≢ z) → T (not (eqb x y || eqb x z))
-neither-complete x y z n = go (eqb x y) (eqb x z) (λ t. n .0 (eqb→eq x y t)) (λ t. n .1 (eqb→eq x z t))
-  where
-    go : (a b : Bool) → (T a → ⊥) → (T b → ⊥) → T (not (a || b))
-    go true b f g = absurd (f tt)
-    go false b f g = not-T b g
-
-set-sound : (b : Bool) → T (not b) → b ≡ false
-set-sound false t = refl
-set-sound true t = absurd t
-
-set-complete : (b : Bool) → b ≡ false → T (not b)
-set-complete b h = rw h tt
-
 pub key-due : (n e : ℕ) (string seed0 seed1 : List ℕ) (room : ℕ)
     → Due (keyClauses n e string seed0 seed1 room) (keyOutcome n e string seed0 seed1 room .number)
 unfolding keyOutcome
 key-due n e string seed0 seed1 room =
     due
-    (next {b = lengthOutside n}
-    (or-sound (ltb n 1) (ltb 256 n) (ltb→lt n 1) (ltb→lt 256 n))
-    (or-complete (ltb n 1) (ltb 256 n) (lt→ltb n 1) (lt→ltb 256 n))
-    (next {b = not (isExpander e)} (neither-sound e 1 2) (neither-complete e 1 2)
+    (next {b = lengthOutside n} (outside n) (outside-test n)
+    (next {b = not (isExpander e)} (unnamed e) (unnamed-test e)
     (next {b = a || (b || c)}
-    (or-sound a (b || c) (differ-sound (length string) (packedLength n)) (or-sound b c (differ-sound (length seed0) 16) (differ-sound (length seed1) 16)))
-    (or-complete a (b || c) (differ-complete (length string) (packedLength n)) (or-complete b c (differ-complete (length seed0) 16) (differ-complete (length seed1) 16)))
-    (next {b = not (spareZero n string)} (set-sound (spareZero n string)) (set-complete (spareZero n string))
+    (either a (b || c) (differ (length string) (packedLength n)) (either b c (differ (length seed0) 16) (differ (length seed1) 16)))
+    (either-test a (b || c) (differ-test (length string) (packedLength n)) (either-test b c (differ-test (length seed0) 16) (differ-test (length seed1) 16)))
+    (next {b = not (spareZero n string)}
+    (λ t. spare-set n string .0 (failed (spareZero n string) t))
+    (λ h. failed-test (spare-set n string .1 h))
     (next {b = ltb room (publicShareLength n)} (ltb→lt room (publicShareLength n)) (lt→ltb room (publicShareLength n)) none)))))
     _
   where

@@ -9,7 +9,6 @@ pub mod KeyMaker
 pub mod KeyCauses
 pub mod KeyTheorems
 pub mod ShareChecks
-pub mod ShareJudged
 pub mod ShareOutcome
 pub mod ShareSums
 pub mod ShareDue

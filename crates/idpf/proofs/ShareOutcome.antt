@@ -2,20 +2,19 @@
 use Prim.Native.Nat.{ℕ, _*_, _/_, _%_, _≤_, _<_}
 use native.Mathlib.Omega.{arith}
 use native.Mathlib.Nat.{min-eq-left, mul-comm, div-add-mod'}
-use mathlib.Core.Path.{_≡_, refl, ap, _∙_}
-use mathlib.Core.Bool.{Bool, true, false, not, _||_}
+use mathlib.Core.Path.{_≡_, ap, _∙_}
+use mathlib.Core.Bool.{Bool, true, false, not}
 use mathlib.Core.List.{List, []}
 use borrow.Author.Tests.{eqb-true, lt-ltb, le-ltb, ltb-false, not-false}
 use lib.ListN.{length, getD, drop, length-map}
 use lib.Dec.{eqb, ltb}
 use Rattle.bits.specs.Lists.{All}
 use Rattle.bits.specs.Strings.{Bits}
-use Rattle.bits.specs.Numbers.{Bytes}
-use Rattle.bits.specs.Places.{window}
-use Rattle.bits.proofs.Places.{window-inside, window-bytes}
 use Rattle.bits.specs.Packing.{packedLength, unpack}
 use Rattle.calls.specs.Bounds.{lengthOutside, mostReports}
 use Rattle.calls.specs.Causes.{Cause, accepted, judged}
+use Rattle.calls.proofs.Decisions.{neither}
+use Rattle.calls.proofs.Judged.{judged-number, judged-refused, judged-accepted, judged-clear}
 use Rattle.expander.specs.Expander.{isExpander, choiceOf}
 use Rattle.expander.specs.declared.Expander.{Expander}
 use Rattle.expander.specs.declared.Choice.the-variants.{Known, Unknown}
@@ -31,17 +30,7 @@ use Rattle.tree.proofs.Queries.{parts-length}
 use Rattle.tree.proofs.Lengths.{totals-length}
 use Rattle.idpf.specs.Reports.{reportCount, publicShareAt, serverSum}
 use Rattle.idpf.specs.Share.{wrongLengths, payloadTooLarge, spareBitsSet, shareCauses, shareBytes, shareOutcome}
-use Rattle.idpf.proofs.Lent.{share-inside}
-use Rattle.idpf.proofs.ShareJudged.{judged-number, judged-refused, judged-accepted, judged-clear}
-
-pub length-inside : (n : ℕ) → 1 ≤ n → n ≤ 256 → lengthOutside n ≡ false
-length-inside n h k = rw (le-ltb n 1 h, le-ltb 256 n k)
-
-pub too-short : (n : ℕ) → n < 1 → lengthOutside n ≡ true
-too-short n h = rw (lt-ltb n 1 h)
-
-pub too-long : (n : ℕ) → 1 ≤ n → 256 < n → lengthOutside n ≡ true
-too-long n h k = rw (le-ltb n 1 h, lt-ltb 256 n k)
+use Rattle.idpf.proofs.Lent.{share-bytes}
 
 -- ---- the first cause that applies
 
@@ -99,10 +88,6 @@ pub record Ready (n e : ℕ) (seeds shares query : List ℕ) (room : ℕ) : Type
   pub a-query : isQuery n query ≡ true
   pub fits : 8 * prefixCount query ≤ room
 
-neither : (a b : Bool) → (a || b) ≡ false → (a ≡ false) × (b ≡ false)
-neither false b h = (refl, h)
-neither true b h = let z : _≡_ {A = ℕ} 0 1 = cc in absurd (omega arith)
-
 -- a length without remainder
 whole : (len w : ℕ) → len % w ≡ 0 → len ≡ w * (len / w)
 whole len w h = omega (arith, div-add-mod' len w, mul-comm w (len / w))
@@ -137,9 +122,7 @@ module _ (n e : ℕ) (seeds shares query : List ℕ) (room : ℕ) where
 pub ready-share : (n e : ℕ) (seeds shares query : List ℕ) (room : ℕ) → Ready n e seeds shares query room → ((j : ℕ) → getD shares j 0 < 256)
     → (i : ℕ) → i < reportCount n seeds shares → (c : ℕ → Correction ℕ) × Wellformed p n c × (publicShare n c ≡ publicShareAt n shares i)
 ready-share n e seeds shares query room r byte i h =
-    let w = publicShareLength n in
-    let part : window w (w * i) shares ≡ publicShareAt n shares i = window-inside w (w * i) shares (share-inside n seeds shares i h refl) in
-    let b : Bytes w (publicShareAt n shares i) = rw part at (window-bytes w (w * i) shares byte) in
+    let b = share-bytes n seeds shares i h byte in
     public-exactly p (omega arith) n (publicShareAt n shares i) (b .byte) .1 (b .size, r .payloads i h, r .spares i h)
 
 -- ---- the outcome

@@ -1,12 +1,12 @@
 -- The call `make_key`: document 01, 'Keys and nodes' and 'Public share'. Assumes nothing.
-use Prim.Native.Nat.{ℕ, _<_}
+use Prim.Native.Nat.{ℕ, _≤_, _<_}
 use mathlib.Core.Path.{_≡_}
-use mathlib.Core.Bool.{false, not, _||_}
+use mathlib.Core.Bool.{true, false, not, _||_}
 use mathlib.Core.List.{List, [], _∷_}
 use mathlib.Core.Logic.{_≢_, _⊎_}
-use lib.ListN.{length}
+use lib.ListN.{length, getD}
 use lib.Dec.{eqb, ltb}
-use Rattle.bits.specs.Packing.{packedLength, unpack, spareZero}
+use Rattle.bits.specs.Packing.{packedLength, bitsOf, unpack, spareZero}
 use Rattle.calls.specs.Bounds.{LengthOutside, lengthOutside}
 use Rattle.calls.specs.Causes.{Cause, cause, Outcome, judged}
 use Rattle.calls.specs.Clauses.{Clause, clause}
@@ -17,14 +17,18 @@ use Rattle.point.specs.Share.{bitOf}
 use Rattle.point.specs.PublicShare.{publicShare, publicShareLength}
 use Rattle.point.specs.Instance.{scheme}
 
--- the causes in words: n outside its bounds; the expander not 1 or 2; the string or a seed of the wrong length; spare bits set in the string;
+-- a bit of the packed string past the n-th is set
+abbrev pub SpareBitSet : ℕ → List ℕ → Type 0
+SpareBitSet n string = (i : ℕ) × (n ≤ i) × (getD (bitsOf string) i false ≡ true)
+
+-- the causes in words: n outside its bounds; the expander not 1 or 2; the string or a seed of the wrong length; a spare bit set in the string;
 -- the public share would not fit
 abbrev pub keyClauses : ℕ → ℕ → List ℕ → List ℕ → List ℕ → ℕ → List Clause
 keyClauses n e string seed0 seed1 room =
     clause 1 (LengthOutside n)
     ∷ clause 3 ((e ≢ 1) × (e ≢ 2))
     ∷ clause 4 ((length string ≢ packedLength n) ⊎ (length seed0 ≢ 16) ⊎ (length seed1 ≢ 16))
-    ∷ clause 7 (spareZero n string ≡ false)
+    ∷ clause 7 (SpareBitSet n string)
     ∷ clause 11 (room < publicShareLength n)
     ∷ []
 

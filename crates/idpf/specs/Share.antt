@@ -1,10 +1,10 @@
 -- The call `share`: document 01, 'Keys and nodes', a server's share for a query. Assumes nothing.
 use Prim.Native.Nat.{ℕ, _*_, _/_, _%_, _≤_, _<_}
 use mathlib.Core.Path.{_≡_}
-use mathlib.Core.Bool.{Bool, false, not, _||_}
+use mathlib.Core.Bool.{Bool, true, not, _||_}
 use mathlib.Core.List.{List, [], _∷_}
 use mathlib.Core.Logic.{_≢_, _⊎_}
-use lib.ListN.{length}
+use lib.ListN.{length, getD}
 use lib.Dec.{eqb, ltb}
 use Rattle.bits.specs.Strings.{Bits}
 use Rattle.calls.specs.Bounds.{LengthOutside, lengthOutside, mostReports}
@@ -15,7 +15,7 @@ use Rattle.expander.specs.declared.Expander.{Expander}
 use Rattle.group.specs.Modular.{p}
 use Rattle.point.specs.Correction.{Correction}
 use Rattle.point.specs.Share.{bitOf}
-use Rattle.point.specs.PublicShare.{publicShareLength, readCorrection, every, payloadsBelow, spareBitsZero}
+use Rattle.point.specs.PublicShare.{controlBytes, publicShareLength, binaryDigit, readCorrection, every, payloadsBelow, spareBitsZero}
 use Rattle.tree.specs.Query.{IsQuery, isQuery, prefixCount, prefixesOf}
 use Rattle.tree.specs.Search.{totals}
 use Rattle.idpf.specs.Reports.{reportCount, publicShareAt, serverSum}
@@ -38,9 +38,11 @@ PayloadTooLarge n seeds shares =
 abbrev pub payloadTooLarge : ℕ → List ℕ → List ℕ → Bool
 payloadTooLarge n seeds shares = not (every (reportCount n seeds shares) (λ i. payloadsBelow p n (publicShareAt n shares i)))
 
--- spare bits are set in some report's public share
+-- in some report's public share a bit of the control bytes past those of n levels is set
 abbrev pub SpareBitsSet : ℕ → List ℕ → List ℕ → Type 0
-SpareBitsSet n seeds shares = (i : ℕ) × (i < reportCount n seeds shares) × (spareBitsZero n (publicShareAt n shares i) ≡ false)
+SpareBitsSet n seeds shares =
+    (i : ℕ) × (i < reportCount n seeds shares)
+    × (j : ℕ) × (2 * n ≤ j) × (j < 8 * controlBytes n) × (binaryDigit (getD (publicShareAt n shares i) (j / 8) 0) (j % 8) ≡ true)
 
 abbrev pub spareBitsSet : ℕ → List ℕ → List ℕ → Bool
 spareBitsSet n seeds shares = not (every (reportCount n seeds shares) (λ i. spareBitsZero n (publicShareAt n shares i)))

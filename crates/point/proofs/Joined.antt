@@ -2,13 +2,13 @@
 use mathlib.Core.Path.{_≡_, refl, sym, ap, ap₂, _∙_}
 use mathlib.Core.Bool.{Bool, true, false, _&&_, true≢false}
 use mathlib.Core.List.{List, [], _∷_, _++_}
-use Prim.Native.Nat.{ℕ, zero, suc, _+_, _*_, _/_, _%_, _^_, _<_, _≤_}
-use native.Mathlib.Nat.{div-div-eq-div-mul, pow-succ', mul-zero, mul-suc, mul-le-mul-left}
+use Prim.Native.Nat.{ℕ, zero, suc, _+_, _-_, _*_, _/_, _%_, _^_, _<_, _≤_}
+use native.Mathlib.Nat.{zero-div, div-div-eq-div-mul, pow-succ', mul-zero, mul-suc, mul-le-mul-left}
 use native.Mathlib.Omega.{arith}
 use native.Mathlib.Decide.{decLt}
 use lib.ListN.{length, getD, take, drop, length-append, length-drop}
 use lib.Seq.{drop-at, take-append-le, drop-append-le, take-all, take-add, getD-drop, getD-take}
-use lib.Pow.{pow-pos}
+use lib.Pow.{pow-pos, pow-add}
 use lib.Dec.{eqb}
 use borrow.Author.Tests.{eq-eqb, ne-eqb}
 use Rattle.bits.specs.Lists.{digit}
@@ -115,6 +115,29 @@ lowestFirst-below (suc k) f zero h =
 lowestFirst-below (suc k) f (suc j) h =
     omega (arith, pow-succ' 2 j, lowestFirst-below k (λ i. f (suc i)) j (λ i l g. h (suc i) (omega arith) (omega arith)), digit-le (f 0))
 
+-- where a number has nothing above its k lowest digits, its digits from k on are 0
+pub nothing-above : (k x i : ℕ) → x / 2 ^ k ≡ 0 → k ≤ i → binaryDigit x i ≡ false
+unfolding binaryDigit
+nothing-above k x i h l =
+    let e : i ≡ k + (i - k) = omega arith in
+    rw (e, pow-add 2 k (i - k), ← div-div-eq-div-mul x (2 ^ k) (2 ^ (i - k)), h, zero-div (2 ^ (i - k)))
+    refl
+
+-- and where it has something, one of them is 1
+pub something-above : (w k x : ℕ) → x < 2 ^ w → (x / 2 ^ k ≡ 0 → ⊥) → (i : ℕ) × (k ≤ i) × (i < w) × (binaryDigit x i ≡ true)
+unfolding binaryDigit
+something-above zero k x h z = let e : x ≡ 0 = omega arith in absurd (z (rw e (zero-div (2 ^ k))))
+something-above (suc w) zero x h z =
+    elim (decLt (x / 2) 1) [
+      | yes a ↦ let n : x ≡ 0 → ⊥ = λ e. z (omega arith) in (0, omega arith, omega arith, eq-eqb (x / 1 % 2) 1 (omega arith))
+      | no a ↦
+          let r = something-above w zero (x / 2) (omega (arith, pow-succ' 2 w)) (λ e. omega arith) in
+          (suc (r .0), omega arith, omega (arith, r .2), rw (pow-succ' 2 (r .0), ← div-div-eq-div-mul x 2 (2 ^ r .0)) (r .3))
+    ]
+something-above (suc w) (suc k) x h z =
+    let r = something-above w k (x / 2) (omega (arith, pow-succ' 2 w)) (λ e. z (rw (pow-succ' 2 k, ← div-div-eq-div-mul x 2 (2 ^ k)) e)) in
+    (suc (r .0), omega (arith, r .1), omega (arith, r .2), rw (pow-succ' 2 (r .0), ← div-div-eq-div-mul x 2 (2 ^ r .0)) (r .3))
+
 -- ---- a test at every place below n
 
 pub every-true : (n : ℕ) (f : ℕ → Bool) → ((k : ℕ) → k < n → f k ≡ true) → every n f ≡ true
@@ -130,6 +153,16 @@ every-false (suc n) f k l e = elim (decLt k n) [ yes a ↦ rw (every-false n f k
     go : (b : Bool) → f n ≡ false → (b && f n) ≡ false
     go true h = h
     go false h = refl
+
+-- a test that does not pass at every place fails at one of them
+pub every-fails : (n : ℕ) (f : ℕ → Bool) → every n f ≡ false → (k : ℕ) × (k < n) × (f k ≡ false)
+unfolding every
+every-fails zero f h = absurd (true≢false h)
+every-fails (suc n) f h = go (every n f) refl (every-fails n f)
+  where
+    go : (b : Bool) → every n f ≡ b → (every n f ≡ false → (k : ℕ) × (k < n) × (f k ≡ false)) → (k : ℕ) × (k < suc n) × (f k ≡ false)
+    go true e g = (n, omega arith, rw e at h)
+    go false e g = let w = g e in (w .0, omega (arith, w .1), w .2)
 
 pub every-at : (n : ℕ) (f : ℕ → Bool) → every n f ≡ true → (k : ℕ) → k < n → f k ≡ true
 every-at n f e k l = go (f k) refl

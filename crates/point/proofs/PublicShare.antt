@@ -1,24 +1,23 @@
 -- Reading a public share gives back every correction word, and the tests pass for exactly the bytes that are one. Assumes nothing.
 use mathlib.Core.Path.{_≡_, refl, sym, ap, ap₂, _∙_}
 use mathlib.Core.Logic.{_↔_}
-use mathlib.Core.Bool.{true, false, or-true}
+use mathlib.Core.Bool.{true, false, or-true, true≢false}
 use mathlib.Core.List.{List, [], _∷_, _++_, append-assoc}
-use Prim.Native.Nat.{ℕ, zero, suc, _+_, _-_, _*_, _/_, _%_, _^_, _<_, _≤_}
-use native.Mathlib.Nat.{div-div-eq-div-mul, div-eq-of-lt, zero-div}
+use Prim.Native.Nat.{ℕ, zero, suc, _+_, _*_, _/_, _%_, _^_, _<_, _≤_}
+use native.Mathlib.Nat.{div-eq-of-lt}
 use native.Mathlib.Omega.{arith}
 use native.Mathlib.Decide.{decLt}
 use lib.ListN.{length, getD, take, drop, length-append, length-drop, take-append-drop, List·getD-append}
 use lib.Seq.{take-at, drop-at, drop-append-add, drop-drop, take-all, drop-cons}
-use lib.Pow.{pow-add}
 use lib.Dec.{eqb, ltb}
-use borrow.Author.Tests.{lt-ltb, le-ltb, ltb-true, eq-eqb, ne-eqb, eqb-true}
+use borrow.Author.Tests.{lt-ltb, le-ltb, ltb-true, eq-eqb, ne-eqb, eqb-true, eqb-false}
 use Rattle.bits.specs.Numbers.{Bytes, little, fromLittle}
 use Rattle.bits.specs.Places.{window}
 use Rattle.bits.proofs.Endian.{little-length, little-bytes, fromLittle-little, little-fromLittle}
 use Rattle.bits.proofs.Places.{window-inside, window-split, window-bytes}
 use Rattle.point.specs.Correction.{Correction}
 use Rattle.point.specs.PublicShare.{joined, controlBytes, levelBit, controlByte, levelBytes, publicShare, publicShareLength, binaryDigit, levelStart, readCorrection, payloadsBelow, spareBitsZero, Wellformed}
-use Rattle.point.proofs.Joined.{append-byte, joined-byte, joined-length, joined-at, joined-get, joined-pieces, digit-lowestFirst, lowestFirst-digits, lowestFirst-below, every-true, every-at}
+use Rattle.point.proofs.Joined.{append-byte, joined-byte, joined-length, joined-at, joined-get, joined-pieces, digit-lowestFirst, lowestFirst-digits, lowestFirst-below, nothing-above, something-above, every-true, every-at}
 
 -- ---- reading what was written
 
@@ -118,13 +117,6 @@ module _ (n : ℕ) (bytes : List ℕ) (byte : (i : ℕ) → getD bytes i 0 < 256
     unfolding spareBitsZero
     above h = eqb-true _ 0 (rw (ne-eqb (n % 4) 0 h) at spare)
 
-    above-digit : (i : ℕ) → (n % 4 ≡ 0 → ⊥) → 2 * (n % 4) ≤ i → binaryDigit (getD bytes (n / 4) 0) i ≡ false
-    unfolding binaryDigit
-    above-digit i h l =
-        let e : i ≡ 2 * (n % 4) + (i - 2 * (n % 4)) = omega arith in
-        rw (e, pow-add 2 (2 * (n % 4)) (i - 2 * (n % 4)), ← div-div-eq-div-mul (getD bytes (n / 4) 0) (2 ^ (2 * (n % 4))) (2 ^ (i - 2 * (n % 4))), above h, zero-div (2 ^ (i - 2 * (n % 4))))
-        refl
-
     write-bit : (j i : ℕ) → j < controlBytes n → i < 8 → levelBit n words (8 * j + i) ≡ binaryDigit (getD bytes j 0) i
     unfolding readCorrection
     write-bit j i hj hi =
@@ -141,7 +133,7 @@ module _ (n : ℕ) (bytes : List ℕ) (byte : (i : ℕ) → getD bytes i 0 < 256
           | no a ↦
               let e : j ≡ n / 4 = omega arith in
               spare-bit n words (8 * j + i) (omega arith)
-              ∙ sym (rw e (above-digit i (λ z. omega arith) (omega arith)))
+              ∙ sym (rw e (nothing-above (2 * (n % 4)) (getD bytes (n / 4) 0) i (above (λ z. omega arith)) (omega arith)))
         ]
 
     write-byte : (j : ℕ) → j < controlBytes n → controlByte n words j ≡ getD bytes j 0
@@ -193,6 +185,28 @@ module _ (n : ℕ) (c : ℕ → Correction ℕ) (seeds : (k : ℕ) → k < n →
         rw (eq-eqb _ 0 e) (or-true (eqb (n % 4) 0))
     | no a ↦ rw (eq-eqb (n % 4) 0 (omega arith))
   ]
+
+-- the spare bits are not zero exactly when a bit of the control bytes past those of n levels is set
+pub spare-set : (n : ℕ) (bytes : List ℕ) → getD bytes (n / 4) 0 < 256 →
+    (spareBitsZero n bytes ≡ false)
+    ↔ ((j : ℕ) × (2 * n ≤ j) × (j < 8 * controlBytes n) × (binaryDigit (getD bytes (j / 8) 0) (j % 8) ≡ true))
+unfolding spareBitsZero
+spare-set n bytes byte = (
+  (λ h. elim (decLt 0 (n % 4)) [
+    | yes a ↦
+        let r = something-above 8 (2 * (n % 4)) (getD bytes (n / 4) 0) byte (eqb-false _ 0 (rw (ne-eqb (n % 4) 0 (λ z. omega arith)) at h)) in
+        let d : (8 * (n / 4) + r .0) / 8 ≡ n / 4 = omega (arith, r .2) in
+        let m : (8 * (n / 4) + r .0) % 8 ≡ r .0 = omega (arith, r .2) in
+        (8 * (n / 4) + r .0, omega (arith, r .1), omega (arith, r .2), rw (d, m) (r .3))
+    | no a ↦ absurd (true≢false (rw (eq-eqb (n % 4) 0 (omega arith)) at h))
+  ]),
+  (λ h.
+      let d : h .0 / 8 ≡ n / 4 = omega (arith, h .1, h .2) in
+      rw (ne-eqb (n % 4) 0 (λ z. omega (arith, h .1, h .2)))
+      (ne-eqb _ 0 (λ z.
+      let e : binaryDigit (getD bytes (n / 4) 0) (h .0 % 8) ≡ true = rw d at (h .3) in
+      true≢false (sym e ∙ nothing-above (2 * (n % 4)) (getD bytes (n / 4) 0) (h .0 % 8) z (omega (arith, h .1, h .2)))))),
+)
 
 -- Any modulus that fits 64 bits.
 module _ (m : ℕ) (fits : m ≤ 2 ^ 64) (n : ℕ) where

@@ -5,10 +5,10 @@ use lib.ListN.{length}
 use Prim.Native.Nat.{ℕ}
 use native.Mathlib.Omega.{arith}
 use Rattle.bits.specs.Places.{putAt}
-use Rattle.bits.proofs.Places.{overlay-nil, putAt-overlay}
+use Rattle.bits.proofs.Places.{window-whole, overlay-nil, putAt-overlay}
 use Rattle.expander.specs.Expander.{blockOf}
 use Rattle.expander.proofs.Sized.{block-length}
-use Rattle.capi.proofs.Block.{window-whole, unknown-expander, wrong-length, no-room, all-well}
+use Rattle.capi.proofs.Block.{unknown-expander, wrong-length, no-room, all-well}
 use borrow.Author.Needs.{needs}
 use Rattle.capi.proofs.tally_block.Statement.{statement}
 use Rattle.capi.proofs.tally_block.Tie as tie
@@ -60,7 +60,7 @@ returns-3 c =
     let a = h .before .before .before .args in
     let x = k .before .e .given .0 .0 in
     let whole = t .before .if1 .left in
-    let bytes = b .block .ensures ∙ ap (λ (s : List ℕ). blockOf x s (a .j)) (b .before .read16 .ensures ∙ window-whole (a .seed .now) whole) in
+    let bytes = b .block .ensures ∙ ap (λ (s : List ℕ). blockOf x s (a .j)) (b .before .read16 .ensures ∙ window-whole 16 (a .seed .now) whole) in
     rw (all-well (a .expander) (a .seed .now) (a .j) (length (a .block .now)) x (sym (h .choose .ensures) ∙ k .before .e .given .1) whole (t .if2 .left)) (
       refl,
       (

@@ -7,10 +7,10 @@ use native.Mathlib.Omega.{arith}
 use lib.ListN.{length}
 use Rattle.bits.specs.Numbers.{Bytes}
 use Rattle.bits.specs.Places.{overlay}
-use Rattle.bits.proofs.Places.{window-bytes, overlay-nil}
+use Rattle.bits.proofs.Places.{window-bytes, window-whole, overlay-nil}
 use Rattle.expander.proofs.Chosen.{unknown}
 use Rattle.idpf.specs.Key.{keyBytes}
-use Rattle.idpf.proofs.KeyCauses.{Ready, seed-whole, nothing-written, ready, key-accepted}
+use Rattle.idpf.proofs.KeyCauses.{Ready, nothing-written, ready, key-accepted}
 use Rattle.idpf.proofs.KeyMaker.{key-length}
 use borrow.Author.Needs.{needs}
 use Rattle.idpf.proofs.keys.make_key.Statement.{statement}
@@ -80,7 +80,7 @@ returns-2 c =
         c .public-share-length .ensures ∙ sym (key-length x (a .n) (a .string .now) (a .seed0 .now) (a .seed1 .now) b0 b1),
         c .before .before .before .write-key .ensures
             ∙ ap₂ (λ (s t : List ℕ). overlay (keyBytes (a .n) (a .string .now) s t x) (a .out .now))
-            (c .before .before .before .before .before .before .read16 .ensures ∙ seed-whole (a .seed0 .now) (r .seed0-length)) (c .before .before .before .before .before .read162 .ensures ∙ seed-whole (a .seed1 .now) (r .seed1-length)),
+            (c .before .before .before .before .before .before .read16 .ensures ∙ window-whole 16 (a .seed0 .now) (r .seed0-length)) (c .before .before .before .before .before .read162 .ensures ∙ window-whole 16 (a .seed1 .now) (r .seed1-length)),
       ),
     )
 
