@@ -5,8 +5,10 @@ use Rattle.point.specs.Correction as words
 use Rattle.idpf.specs.declared.node.Node.{Node}
 use Rattle.idpf.specs.declared.node.Correction.{Correction}
 
+-- a struct's seed and control bit as a node
 abbrev pub nodeOf : Node → point.Node
 nodeOf n = record { seed = n .seed; bit = n .bit }
 
+-- a struct's corrections as the correction word of a level
 abbrev pub correctionOf : Correction → words.Correction ℕ
 correctionOf c = record { seed = c .seed; left = c .left; right = c .right; payload = c .payload }
