@@ -1,11 +1,11 @@
--- Tests and what they decide: alternatives, numbers that differ, and a length outside its bounds. Assumes nothing.
+-- Tests and what they decide: alternatives, numbers that differ, and a number outside its bounds. Assumes nothing.
 use Prim.Native.Nat.{ℕ, _≤_, _<_}
 use mathlib.Core.Path.{_≡_, refl}
 use mathlib.Core.Bool.{Bool, true, false, not, true≢false, _||_}
 use mathlib.Core.Logic.{_≢_, _⊎_, inl, inr}
 use borrow.Author.Tests.{eq-eqb, ne-eqb, lt-ltb, le-ltb}
 use lib.Dec.{T, eqb, ltb, ltb→lt, lt→ltb, T-not}
-use Rattle.calls.specs.Bounds.{LengthOutside, lengthOutside}
+use Rattle.calls.specs.Bounds.{Outside, outside}
 
 -- ---- one test
 
@@ -46,20 +46,20 @@ neither true b h = absurd (true≢false h)
 pub neither-test : {a b : Bool} → a ≡ false → b ≡ false → (a || b) ≡ false
 neither-test h k = rw (h, k)
 
--- ---- the length of strings
+-- ---- bounds
 
-module _ (n : ℕ) where
-  pub outside : T (lengthOutside n) → LengthOutside n
-  outside = either (ltb n 1) (ltb 256 n) (ltb→lt n 1) (ltb→lt 256 n)
+module _ (most x : ℕ) where
+  pub beyond : T (outside most x) → Outside most x
+  beyond = either (ltb x 1) (ltb most x) (ltb→lt x 1) (ltb→lt most x)
 
-  pub outside-test : LengthOutside n → T (lengthOutside n)
-  outside-test = either-test (ltb n 1) (ltb 256 n) (lt→ltb n 1) (lt→ltb 256 n)
+  pub beyond-test : Outside most x → T (outside most x)
+  beyond-test = either-test (ltb x 1) (ltb most x) (lt→ltb x 1) (lt→ltb most x)
 
-  pub too-short : n < 1 → lengthOutside n ≡ true
-  too-short h = rw (lt-ltb n 1 h)
+  pub below-bounds : x < 1 → outside most x ≡ true
+  below-bounds h = rw (lt-ltb x 1 h)
 
-  pub too-long : 1 ≤ n → 256 < n → lengthOutside n ≡ true
-  too-long h k = rw (le-ltb n 1 h, lt-ltb 256 n k)
+  pub above-bounds : 1 ≤ x → most < x → outside most x ≡ true
+  above-bounds h k = rw (le-ltb x 1 h, lt-ltb most x k)
 
-  pub length-inside : 1 ≤ n → n ≤ 256 → lengthOutside n ≡ false
-  length-inside h k = neither-test (le-ltb n 1 h) (le-ltb 256 n k)
+  pub in-bounds : 1 ≤ x → x ≤ most → outside most x ≡ false
+  in-bounds h k = neither-test (le-ltb x 1 h) (le-ltb most x k)

@@ -8,7 +8,7 @@ use mathlib.Core.List.{List, [], _∷_}
 use mathlib.Core.Logic.{inl, inr}
 use lib.Dec.{T}
 use Rattle.bits.specs.Lists.{All}
-use Rattle.calls.specs.Causes.{Cause, cause, refused, accepted, judged}
+use Rattle.calls.specs.Causes.{Cause, cause, numberDue, refused, accepted, judged}
 use Rattle.calls.specs.Clauses.{Clause, clause, Due}
 
 -- ---- the number that is due
@@ -19,13 +19,25 @@ pub data Decided : List Clause → List Cause → Type 1 where
   next : {k : ℕ} {P : Type 0} {b : Bool} {cs : List Clause} {ds : List Cause} →
       (T b → P) → (P → T b) → Decided cs ds → Decided (clause k P ∷ cs) (cause k b ∷ ds)
 
-pub due : {cs : List Clause} {ds : List Cause} → Decided cs ds → (bytes : List ℕ) → Due cs (judged ds bytes .number)
-due none bytes = refl
-due (next {k} {P} {b} {cs} {ds} sound complete d) bytes = go b sound complete (due d bytes)
+pub number-due : {cs : List Clause} {ds : List Cause} → Decided cs ds → Due cs (numberDue ds)
+number-due none = refl
+number-due (next {k} {P} {b} {cs} {ds} sound complete d) = go b sound complete (number-due d)
   where
-    go : (b : Bool) → (T b → P) → (P → T b) → Due cs (judged ds bytes .number) → Due (clause k P ∷ cs) (judged (cause k b ∷ ds) bytes .number)
+    go : (b : Bool) → (T b → P) → (P → T b) → Due cs (numberDue ds) → Due (clause k P ∷ cs) (numberDue (cause k b ∷ ds))
     go true f g h = inl (f tt, refl)
     go false f g h = inr (g, h)
+
+-- the number of an outcome is that of its causes, whatever is written
+pub judged-due : (cs : List Cause) (bytes : List ℕ) → judged cs bytes .number ≡ numberDue cs
+judged-due [] bytes = refl
+judged-due (c ∷ cs) bytes = go (c .applies) (judged-due cs bytes)
+  where
+    go : (b : Bool) → judged cs bytes .number ≡ numberDue cs → cond b (refused (c .number)) (judged cs bytes) .number ≡ cond b (c .number) (numberDue cs)
+    go true h = refl
+    go false h = h
+
+pub due : {cs : List Clause} {ds : List Cause} → Decided cs ds → (bytes : List ℕ) → Due cs (judged ds bytes .number)
+due {cs} {ds} d bytes = rw (judged-due ds bytes) (number-due d)
 
 -- only one number is due
 pub due-unique : (cs : List Clause) {j k : ℕ} → Due cs j → Due cs k → j ≡ k
@@ -39,13 +51,7 @@ due-unique (c ∷ cs) (inr p) (inr q) = due-unique cs (p .1) (q .1)
 
 -- whatever would be written, the number is the same
 pub judged-number : (cs : List Cause) (xs ys : List ℕ) → judged cs xs .number ≡ judged cs ys .number
-judged-number [] xs ys = refl
-judged-number (c ∷ cs) xs ys = go (c .applies) (judged-number cs xs ys)
-  where
-    go : (b : Bool) → judged cs xs .number ≡ judged cs ys .number
-        → cond b (refused (c .number)) (judged cs xs) .number ≡ cond b (refused (c .number)) (judged cs ys) .number
-    go true h = refl
-    go false h = h
+judged-number cs xs ys = judged-due cs xs ∙ sym (judged-due cs ys)
 
 -- a number that is not 0 refuses
 pub judged-refused : (cs : List Cause) (bytes : List ℕ) → (judged cs bytes .number ≡ 0 → ⊥) → judged cs bytes .written ≡ []

@@ -4,12 +4,26 @@ use mathlib.Core.Bool.{Bool, _||_}
 use mathlib.Core.Logic.{_⊎_}
 use lib.Dec.{ltb}
 
--- the string length n, from 1 to 256, is outside its bounds; and the test
+-- x is outside the bounds from 1 to `most`; and the test
+abbrev pub Outside : ℕ → ℕ → Type 0
+Outside most x = (x < 1) ⊎ (most < x)
+
+abbrev pub outside : ℕ → ℕ → Bool
+outside most x = ltb x 1 || ltb most x
+
+-- the string length n
 abbrev pub LengthOutside : ℕ → Type 0
-LengthOutside n = (n < 1) ⊎ (256 < n)
+LengthOutside n = Outside 256 n
 
 abbrev pub lengthOutside : ℕ → Bool
-lengthOutside n = ltb n 1 || ltb 256 n
+lengthOutside n = outside 256 n
+
+-- the threshold t
+abbrev pub ThresholdOutside : ℕ → Type 0
+ThresholdOutside t = Outside 65535 t
+
+abbrev pub thresholdOutside : ℕ → Bool
+thresholdOutside t = outside 65535 t
 
 -- the most reports
 abbrev pub mostReports : ℕ

@@ -11,6 +11,11 @@ pub record Cause : Type 0 where
 abbrev pub cause : ℕ → Bool → Cause
 cause k b = record { number = k; applies = b }
 
+-- the number of a call whose causes stand in the order in which they are judged: that of the first that applies, or 0
+abbrev pub numberDue : List Cause → ℕ
+numberDue [] = 0
+numberDue (c ∷ cs) = cond (c .applies) (c .number) (numberDue cs)
+
 -- The number returned and the bytes written from the beginning of the lent space on.
 pub record Outcome : Type 0 where
   pub number : ℕ
@@ -24,7 +29,7 @@ refused k = record { number = k; written = [] }
 abbrev pub accepted : List ℕ → Outcome
 accepted bytes = record { number = 0; written = bytes }
 
--- a call whose causes stand in the order in which they are judged: the first that applies refuses, and where none applies it succeeds
+-- a call that writes into one lent space: the first of its causes that applies refuses, and where none applies it succeeds
 abbrev pub judged : List Cause → List ℕ → Outcome
 judged [] bytes = accepted bytes
 judged (c ∷ cs) bytes = cond (c .applies) (refused (c .number)) (judged cs bytes)

@@ -12,7 +12,7 @@ use Rattle.bits.specs.Numbers.{Bytes}
 use Rattle.bits.specs.Packing.{packedLength, pack, unpack, spareZero}
 use Rattle.bits.proofs.Packed.{pack-length, unpack-pack, pack-spareZero}
 use Rattle.calls.specs.Causes.{Outcome, accepted}
-use Rattle.calls.proofs.Decisions.{neither-test, length-inside}
+use Rattle.calls.proofs.Decisions.{neither-test, in-bounds}
 use Rattle.calls.proofs.Judged.{judged-accepted, _&_}
 use Rattle.expander.specs.Expander.{choiceOf, under}
 use Rattle.expander.specs.declared.Expander.{Expander}
@@ -55,7 +55,7 @@ module _ (e : Expander) (n : ℕ) (r : Report ℕ) (honest : Honest n r) where
       neither-test (ap not (eq-eqb (length (pack (r .string))) (packedLength n) size))
       (neither-test (ap not (eq-eqb (length (r .seed0)) 16 (honest .made .sized0 .size))) (ap not (eq-eqb (length (r .seed1)) 16 (honest .made .sized1 .size)))) in
       judged-accepted (keyCauses n number (pack (r .string)) (r .seed0) (r .seed1) room) _
-      (length-inside n from to & ap not (known number e named) & lengths & ap not spare & le-ltb room (publicShareLength n) fits & tt)
+      (in-bounds 256 n from to & ap not (known number e named) & lengths & ap not spare & le-ltb room (publicShareLength n) fits & tt)
       ∙ ap accepted (ap (λ (c : Choice). under c (keyBytes n (pack (r .string)) (r .seed0) (r .seed1))) named ∙ key-bytes)
 
   -- What it writes has the length of a public share, its payload corrections are below p, and its spare bits are zero.

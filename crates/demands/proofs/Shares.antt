@@ -15,7 +15,7 @@ use Rattle.bits.proofs.Packed.{unpack-length}
 use Rattle.bits.proofs.Places.{window-length}
 use Rattle.calls.specs.Bounds.{mostReports}
 use Rattle.calls.specs.Causes.{accepted}
-use Rattle.calls.proofs.Decisions.{neither-test, length-inside}
+use Rattle.calls.proofs.Decisions.{neither-test, in-bounds}
 use Rattle.calls.proofs.Judged.{judged-accepted, _&_}
 use Rattle.expander.specs.Expander.{choiceOf, under}
 use Rattle.expander.specs.declared.Expander.{Expander}
@@ -91,7 +91,7 @@ module _ (e : Expander) (number : ℕ) (named : choiceOf number ≡ Known e) (n 
       let spare : spareBitsSet n (lentSeeds b rs) (lentShares e n rs) ≡ false =
       ap not (every-true _ _ (lent-pass b (spareBitsZero n) (all-map (Honest n) _ (λ r h. key-passes e n r h .2) rs honest))) in
       judged-accepted (shareCauses n number (lentSeeds b rs) (lentShares e n rs) query room) _
-      (length-inside n from to & ap not (known number e named) & lent-lengths b & le-ltb mostReports _ reports
+      (in-bounds 256 n from to & ap not (known number e named) & lent-lengths b & le-ltb mostReports _ reports
       & numbers & spare & ap not asks & le-ltb room (8 * prefixCount query) fits & tt)
       ∙ ap (λ (c : Choice). accepted (under c (shareBytes n b (lentSeeds b rs) (lentShares e n rs) query))) named
 

@@ -11,7 +11,7 @@ use lib.Dec.{eqb, ltb}
 use Rattle.bits.specs.Packing.{packedLength, spareZero}
 use Rattle.calls.specs.Bounds.{lengthOutside}
 use Rattle.calls.specs.Causes.{cause, judged, accepted}
-use Rattle.calls.proofs.Decisions.{neither, length-inside}
+use Rattle.calls.proofs.Decisions.{neither, in-bounds}
 use Rattle.calls.proofs.Judged.{judged-number, judged-refused, judged-accepted, judged-clear}
 use Rattle.expander.specs.Expander.{choiceOf, isExpander, under}
 use Rattle.expander.specs.declared.Expander.{Expander}
@@ -36,7 +36,7 @@ module _ (n e : ℕ) (string seed0 seed1 : List ℕ) (room : ℕ) where
       → judged (cause 3 x ∷ cause 4 y ∷ cause 7 z ∷ cause 11 w ∷ []) [] .number ≡ keyOutcome n e string seed0 seed1 room .number
   unfolding keyOutcome
   other-cause l h {x} {y} {z} {w} ex ey ez ew =
-      rw (length-inside n l h, ex, ey, ez, ew)
+      rw (in-bounds 256 n l h, ex, ey, ez, ew)
       (judged-number (cause 3 (not (isExpander e)) ∷ cause 4 wrong ∷ cause 7 (not (spareZero n string)) ∷ cause 11 (ltb room (publicShareLength n)) ∷ []) [] bytes)
 
   pub nothing-written : keyOutcome n e string seed0 seed1 room .number ≢ 0 → keyOutcome n e string seed0 seed1 room .written ≡ []

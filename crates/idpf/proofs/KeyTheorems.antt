@@ -12,7 +12,7 @@ use Rattle.bits.proofs.Packed.{unpack-length}
 use Rattle.bits.proofs.Spare.{spare-set}
 use Rattle.calls.specs.Bounds.{lengthOutside}
 use Rattle.calls.specs.Clauses.{Due}
-use Rattle.calls.proofs.Decisions.{failed, failed-test, differ, differ-test, either, either-test, outside, outside-test}
+use Rattle.calls.proofs.Decisions.{failed, failed-test, differ, differ-test, either, either-test, beyond, beyond-test}
 use Rattle.calls.proofs.Judged.{due, none, next}
 use Rattle.expander.specs.Expander.{choiceOf, isExpander}
 use Rattle.expander.specs.declared.Expander.{Expander}
@@ -35,7 +35,7 @@ pub key-due : (n e : ℕ) (string seed0 seed1 : List ℕ) (room : ℕ)
 unfolding keyOutcome
 key-due n e string seed0 seed1 room =
     due
-    (next {b = lengthOutside n} (outside n) (outside-test n)
+    (next {b = lengthOutside n} (beyond 256 n) (beyond-test 256 n)
     (next {b = not (isExpander e)} (unnamed e) (unnamed-test e)
     (next {b = a || (b || c)}
     (either a (b || c) (differ (length string) (packedLength n)) (either b c (differ (length seed0) 16) (differ (length seed1) 16)))

@@ -11,7 +11,7 @@ use lib.ListN.{length, getD}
 use lib.Dec.{T, eqb, ltb, ltb→lt, lt→ltb, not-T}
 use Rattle.calls.specs.Bounds.{lengthOutside, mostReports}
 use Rattle.calls.specs.Clauses.{Due}
-use Rattle.calls.proofs.Decisions.{passed, failed, failed-test, differ, differ-test, either, either-test, outside, outside-test, too-long}
+use Rattle.calls.proofs.Decisions.{passed, failed, failed-test, differ, differ-test, either, either-test, beyond, beyond-test, above-bounds}
 use Rattle.calls.proofs.Judged.{due, none, next}
 use Rattle.expander.specs.Expander.{isExpander}
 use Rattle.expander.proofs.Chosen.{unnamed, unnamed-test}
@@ -77,7 +77,7 @@ module _ (n e : ℕ) (b : Bool) (seeds shares query : List ℕ) (room : ℕ)
   inside-due h =
       let exact = query-exact n query query-byte in
       due
-      (next {b = lengthOutside n} (outside n) (outside-test n)
+      (next {b = lengthOutside n} (beyond 256 n) (beyond-test 256 n)
       (next {b = not (isExpander e)} (unnamed e) (unnamed-test e)
       (next {b = wrongLengths n seeds shares} (wrong n seeds shares) (wrong-test n seeds shares)
       (next {b = ltb mostReports (length seeds / 16)} (ltb→lt mostReports (length seeds / 16)) (lt→ltb mostReports (length seeds / 16))
@@ -92,6 +92,6 @@ module _ (n e : ℕ) (b : Bool) (seeds shares query : List ℕ) (room : ℕ)
   -- for all numbers, where each element of the public shares and of the query is below 256: a longer string is refused before its query is judged
   pub share-due : Due (shareClauses n e seeds shares query room) (shareOutcome n e b seeds shares query room .number)
   share-due = elim (decLt 256 n) [
-    | yes a ↦ inl (inr a, sym (outcome-number n e b seeds shares query room (cause-1 n e seeds shares query room (too-long n (omega arith) a))))
+    | yes a ↦ inl (inr a, sym (outcome-number n e b seeds shares query room (cause-1 n e seeds shares query room (above-bounds 256 n (omega arith) a))))
     | no a ↦ inside-due (omega arith)
   ]

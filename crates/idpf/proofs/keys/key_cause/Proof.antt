@@ -2,7 +2,7 @@
 use mathlib.Core.Path.{ap, _∙_}
 use mathlib.Core.Bool.{not}
 use lib.Dec.{ltb}
-use Rattle.calls.proofs.Decisions.{too-short, too-long}
+use Rattle.calls.proofs.Decisions.{below-bounds, above-bounds}
 use Rattle.idpf.proofs.KeyCauses.{cause-1, other-cause}
 use borrow.Author.Needs.{needs}
 use Rattle.idpf.proofs.keys.key_cause.Statement.{statement}
@@ -11,12 +11,12 @@ use Rattle.idpf.proofs.keys.key_cause.Tie as tie
 returns : tie.Need-returns
 returns c =
     let a = c .before .before .before .before .args in
-    cause-1 (a .n) (a .expander) (a .string .now) (a .seed0 .now) (a .seed1 .now) (a .room) (too-short (a .n) (c .if1 .taken))
+    cause-1 (a .n) (a .expander) (a .string .now) (a .seed0 .now) (a .seed1 .now) (a .room) (below-bounds 256 (a .n) (c .if1 .taken))
 
 returns-2 : tie.Need-returns-2
 returns-2 c =
     let a = c .before .before .before .before .before .args in
-    cause-1 (a .n) (a .expander) (a .string .now) (a .seed0 .now) (a .seed1 .now) (a .room) (too-long (a .n) (c .before .if1 .left) (c .if2 .taken))
+    cause-1 (a .n) (a .expander) (a .string .now) (a .seed0 .now) (a .seed1 .now) (a .room) (above-bounds 256 (a .n) (c .before .if1 .left) (c .if2 .taken))
 
 cast-levels : tie.Need-cast-levels
 cast-levels c = search needs

@@ -8,7 +8,7 @@ use borrow.Author.Tests.{not-true, not-false, lt-ltb, le-ltb}
 use lib.ListN.{length}
 use lib.Dec.{ltb}
 use Rattle.calls.specs.Bounds.{lengthOutside, mostReports}
-use Rattle.calls.proofs.Decisions.{length-inside, too-short, too-long}
+use Rattle.calls.proofs.Decisions.{in-bounds, below-bounds, above-bounds}
 use Rattle.expander.specs.Expander.{isExpander}
 use Rattle.tree.specs.Query.{isQuery}
 use Rattle.idpf.specs.Share.{wrongLengths, payloadTooLarge, spareBitsSet}
@@ -40,7 +40,7 @@ abbrev start₈ : tie.Else8 → tie.Start
 start₈ c = start₇ (c .before .before)
 
 bounds : (c : tie.Else2) → lengthOutside (start₂ c .args .n) ≡ false
-bounds c = length-inside (start₂ c .args .n) (c .before .if1 .left) (c .if2 .left)
+bounds c = in-bounds 256 (start₂ c .args .n) (c .before .if1 .left) (c .if2 .left)
 
 known : (c : tie.Else3) → isExpander (start₃ c .args .expander) ≡ true
 known c = sym (c .before .is-expander .ensures) ∙ not-false _ (c .if3 .left)
@@ -65,12 +65,12 @@ a-query c = sym (c .before .is-query .ensures) ∙ not-false _ (c .if8 .left)
 returns : tie.Need-returns
 returns c =
     let a = c .before .before .before .before .args in
-    cause-1 (a .n) (a .expander) (a .seeds .now) (a .shares .now) (a .query .now) (a .room) (too-short (a .n) (c .if1 .taken))
+    cause-1 (a .n) (a .expander) (a .seeds .now) (a .shares .now) (a .query .now) (a .room) (below-bounds 256 (a .n) (c .if1 .taken))
 
 returns-2 : tie.Need-returns-2
 returns-2 c =
     let a = c .before .before .before .before .before .args in
-    cause-1 (a .n) (a .expander) (a .seeds .now) (a .shares .now) (a .query .now) (a .room) (too-long (a .n) (c .before .if1 .left) (c .if2 .taken))
+    cause-1 (a .n) (a .expander) (a .seeds .now) (a .shares .now) (a .query .now) (a .room) (above-bounds 256 (a .n) (c .before .if1 .left) (c .if2 .taken))
 
 is-expander-requires : tie.Need-is-expander-requires
 is-expander-requires c κs = search needs
