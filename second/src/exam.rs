@@ -1,7 +1,7 @@
 //! The exam program: from the text on standard input to the whole output.
 
 use crate::query::{pack, unpack, Query};
-use crate::{field, key, search};
+use crate::{field, judge, key, search};
 
 /// An exam text as laid out.
 struct Text {
@@ -30,10 +30,12 @@ pub fn exam(text: &[u8]) -> Vec<u8> {
 }
 
 fn judged(text: &Text) -> Result<String, u64> {
-    crate::bits_in_bounds(text.n as u64)?;
-    crate::threshold_in_bounds(text.t)?;
-    crate::expander::Expander::of(text.expander)?;
     let n = text.n as u64;
+    // The bounds are those of the search, judged before any key is made.
+    let number = judge::search(n, text.t, text.expander, &[], &[], &[], &[], 0, 0);
+    if number != 0 {
+        return Err(number);
+    }
     let mut seeds0 = Vec::new();
     let mut seeds1 = Vec::new();
     let mut public_shares = Vec::new();
@@ -102,11 +104,10 @@ pub fn entries(record: &[u8]) -> Vec<(usize, Vec<u8>, u64)> {
         let length = u16::from_be_bytes([rest[0], rest[1]]) as usize + 1;
         let count = u32::from_be_bytes([rest[2], rest[3], rest[4], rest[5]]) as usize;
         let end = 6 + count * crate::query::packed_size(length);
-        if let Ok(query) = Query::read(length, &rest[..end]) {
-            for i in 0..count {
-                let total = field::read(&rest[end + 8 * i..end + 8 * i + 8]);
-                entries.push((length, query.prefix(i).to_vec(), total));
-            }
+        let query = Query::of(&rest[..end]);
+        for i in 0..count {
+            let total = field::read(&rest[end + 8 * i..end + 8 * i + 8]);
+            entries.push((length, query.prefix(i).to_vec(), total));
         }
         rest = &rest[end + 8 * count..];
     }

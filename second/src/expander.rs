@@ -9,12 +9,12 @@ pub enum Expander {
 }
 
 impl Expander {
-    /// Cause 3: the expander of a lent number.
-    pub fn of(number: u64) -> Result<Expander, u64> {
+    /// The expander of a judged number.
+    pub fn of(number: u64) -> Expander {
         match number {
-            1 => Ok(Expander::Aes),
-            2 => Ok(Expander::Classroom),
-            _ => Err(3),
+            1 => Expander::Aes,
+            2 => Expander::Classroom,
+            _ => unreachable!("expander {number} passed the judge"),
         }
     }
 
@@ -38,13 +38,23 @@ fn classroom(seed: &[u8; 16], j: u64) -> [u8; 16] {
 
 /// Writes block j of a seed.
 pub fn block(expander: u64, seed: &[u8], j: u64, block: &mut [u8]) -> Reply {
-    Reply::settle(made(expander, seed, j), block)
+    Reply::settle(judged(expander, seed, block.len()), block, || {
+        Expander::of(expander).block(&seed_of(seed), j).to_vec()
+    })
 }
 
-fn made(expander: u64, seed: &[u8], j: u64) -> Result<Vec<u8>, u64> {
-    let expander = Expander::of(expander)?;
-    let seed = seed_of(seed)?;
-    Ok(expander.block(&seed, j).to_vec())
+/// The number with which a block refuses, or 0; it is none of the judge's four calls.
+fn judged(expander: u64, seed: &[u8], space: usize) -> u64 {
+    if expander != 1 && expander != 2 {
+        return 3;
+    }
+    if seed.len() != 16 {
+        return 4;
+    }
+    if space < 16 {
+        return 11;
+    }
+    0
 }
 
 #[cfg(test)]

@@ -1,8 +1,8 @@
 //! The key maker, the expansion of seeds and the public share's layout.
 
 use crate::expander::Expander;
-use crate::query::{bit, packed_size, spare_bits_set};
-use crate::{bits_in_bounds, field, seed_of, Reply};
+use crate::query::unpack;
+use crate::{field, judge, seed_of, Reply};
 
 pub type Seed = [u8; 16];
 
@@ -118,20 +118,11 @@ pub fn key(
     seed1: &[u8],
     public_share: &mut [u8],
 ) -> Reply {
-    Reply::settle(made(n, expander, string, seed0, seed1), public_share)
-}
-
-fn made(n: u64, expander: u64, string: &[u8], seed0: &[u8], seed1: &[u8]) -> Result<Vec<u8>, u64> {
-    let n = bits_in_bounds(n)?;
-    let expander = Expander::of(expander)?;
-    let seed0 = seed_of(seed0)?;
-    let seed1 = seed_of(seed1)?;
-    if string.len() != packed_size(n) {
-        return Err(4);
-    }
-    if spare_bits_set(string, n) {
-        return Err(7);
-    }
-    let bits: Vec<bool> = (0..n).map(|i| bit(string, i)).collect();
-    Ok(write(&corrections(expander, &bits, seed0, seed1)))
+    let space = public_share.len();
+    let number = judge::key(n, expander, string, seed0, seed1, space);
+    Reply::settle(number, public_share, || {
+        let bits = unpack(string, n as usize);
+        let (s0, s1) = (seed_of(seed0), seed_of(seed1));
+        write(&corrections(Expander::of(expander), &bits, s0, s1))
+    })
 }

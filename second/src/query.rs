@@ -1,7 +1,5 @@
 //! Packed strings and queries.
 
-use crate::MOST_PREFIXES;
-
 /// Bytes of a packed string of that many bits.
 pub fn packed_size(bits: usize) -> usize {
     bits.div_ceil(8)
@@ -10,11 +8,6 @@ pub fn packed_size(bits: usize) -> usize {
 /// Bit i of a packed string; the first is the highest of its byte.
 pub fn bit(packed: &[u8], i: usize) -> bool {
     packed[i / 8] >> (7 - i % 8) & 1 == 1
-}
-
-/// Whether a bit after the last of `bits` is set.
-pub fn spare_bits_set(packed: &[u8], bits: usize) -> bool {
-    (bits..8 * packed.len()).any(|i| bit(packed, i))
 }
 
 /// The packed form of a string.
@@ -33,7 +26,7 @@ pub fn unpack(packed: &[u8], bits: usize) -> Vec<bool> {
     (0..bits).map(|i| bit(packed, i)).collect()
 }
 
-/// A query found to be as laid out.
+/// A query that was judged to be as laid out.
 pub struct Query<'a> {
     /// Bits of each prefix.
     pub length: usize,
@@ -42,35 +35,13 @@ pub struct Query<'a> {
 }
 
 impl<'a> Query<'a> {
-    /// Cause 9: the query of lent bytes, for strings of n bits.
-    pub fn read(n: usize, bytes: &'a [u8]) -> Result<Query<'a>, u64> {
-        if bytes.len() < 6 {
-            return Err(9);
+    /// The query of judged bytes.
+    pub fn of(bytes: &'a [u8]) -> Query<'a> {
+        Query {
+            length: u16::from_be_bytes([bytes[0], bytes[1]]) as usize + 1,
+            count: u32::from_be_bytes([bytes[2], bytes[3], bytes[4], bytes[5]]) as usize,
+            prefixes: &bytes[6..],
         }
-        let length = u16::from_be_bytes([bytes[0], bytes[1]]) as usize + 1;
-        let count = u32::from_be_bytes([bytes[2], bytes[3], bytes[4], bytes[5]]) as usize;
-        let prefixes = &bytes[6..];
-        if length > n || !(1..=MOST_PREFIXES).contains(&count) {
-            return Err(9);
-        }
-        let size = packed_size(length);
-        if prefixes.len() != count * size {
-            return Err(9);
-        }
-        let query = Query {
-            length,
-            count,
-            prefixes,
-        };
-        for i in 0..count {
-            if spare_bits_set(query.prefix(i), length) {
-                return Err(9);
-            }
-            if i > 0 && query.prefix(i - 1) >= query.prefix(i) {
-                return Err(9);
-            }
-        }
-        Ok(query)
     }
 
     /// Prefix i, packed.
@@ -106,18 +77,20 @@ pub fn child(prefix: &[u8], length: usize, last: bool) -> Vec<u8> {
 #[cfg(test)]
 mod tests {
     use super::*;
+    use crate::judge::query_as_laid_out;
 
     #[test]
     fn queries_as_laid_out() {
         assert_eq!(first(), [0, 0, 0, 0, 0, 2, 0x00, 0x80]);
-        assert!(Query::read(1, &first()).is_ok());
+        assert!(query_as_laid_out(1, &first()));
         let good = [0, 2, 0, 0, 0, 2, 0x20, 0xe0];
-        let query = Query::read(3, &good).unwrap_or_else(|_| panic!());
+        assert!(query_as_laid_out(3, &good));
+        let query = Query::of(&good);
         assert_eq!((query.length, query.count), (3, 2));
         assert_eq!(unpack(query.prefix(0), 3), [false, false, true]);
-        assert!(Query::read(2, &good).is_err());
+        assert!(!query_as_laid_out(2, &good));
         for i in 0..good.len() {
-            assert!(Query::read(3, &good[..i]).is_err());
+            assert!(!query_as_laid_out(3, &good[..i]));
         }
         for bad in [
             [0, 2, 0, 0, 0, 2, 0x21, 0xe0],
@@ -128,9 +101,9 @@ mod tests {
             [0, 1, 0, 0, 0, 2, 0x20, 0xe0],
             [1, 2, 0, 0, 0, 2, 0x20, 0xe0],
         ] {
-            assert!(Query::read(3, &bad).is_err());
+            assert!(!query_as_laid_out(3, &bad));
         }
-        assert!(Query::read(3, &[0, 2, 0, 0, 0, 0]).is_err());
+        assert!(!query_as_laid_out(3, &[0, 2, 0, 0, 0, 0]));
     }
 
     #[test]

@@ -1,10 +1,10 @@
 //! The whole search.
 
-use crate::combine::{answer, Answer};
+use crate::combine::{answer, totals, Answer};
 use crate::expander::Expander;
 use crate::query::{self, Query};
 use crate::share::Reports;
-use crate::{bits_in_bounds, field, threshold_in_bounds, Found};
+use crate::{field, judge, Found};
 
 /// Writes the record and the list of a whole search.
 #[allow(clippy::too_many_arguments)]
@@ -24,77 +24,71 @@ pub fn search(
         record_length: 0,
         list_length: 0,
     };
-    let lent0 = (seeds0, public_shares0);
-    let lent1 = (seeds1, public_shares1);
-    let made = made(n, t, expander, lent0, lent1, record.len(), list.len());
-    let (made_record, made_list) = match made {
-        Ok(both) => both,
-        Err(number) => {
-            if number == 11 {
-                record.fill(0);
-            }
-            return refused(number);
-        }
+    let number = judge::search(
+        n,
+        t,
+        expander,
+        seeds0,
+        public_shares0,
+        seeds1,
+        public_shares1,
+        record.len(),
+        list.len(),
+    );
+    if number != 0 {
+        return refused(number);
+    }
+    let n = n as usize;
+    let lent = |seeds, public_shares| Reports {
+        n,
+        seeds,
+        public_shares,
+    };
+    let reports0 = lent(seeds0, public_shares0);
+    let reports1 = lent(seeds1, public_shares1);
+    let totals_of = |query: &Query| {
+        let expander = Expander::of(expander);
+        let share0 = reports0.sums(expander, false, query);
+        let share1 = reports1.sums(expander, true, query);
+        totals(&share0, &share1)
+    };
+    let Some((made_record, made_list)) = run(n, t, totals_of, record.len(), list.len()) else {
+        record.fill(0);
+        return refused(11);
     };
     record[..made_record.len()].copy_from_slice(&made_record);
     list[..made_list.len()].copy_from_slice(&made_list);
     Found {
-        number: 0,
+        number,
         record_length: made_record.len() as u64,
         list_length: made_list.len() as u64,
     }
 }
 
-/// Seeds and public shares lent for one server.
-type Lent<'a> = (&'a [u8], &'a [u8]);
-
 /// Record and list.
 type Outcome = (Vec<u8>, Vec<u8>);
 
-fn made(
-    n: u64,
+/// The search with the totals of each query, where the judge finds that everything fits.
+fn run(
+    n: usize,
     t: u64,
-    expander: u64,
-    lent0: Lent,
-    lent1: Lent,
+    totals_of: impl Fn(&Query) -> Vec<u64>,
     record_space: usize,
     list_space: usize,
-) -> Result<Outcome, u64> {
-    let n = bits_in_bounds(n)?;
-    threshold_in_bounds(t)?;
-    let expander = Expander::of(expander)?;
-    let reports0 = Reports::read(n, lent0.0, lent0.1)?;
-    let reports1 = Reports::read(n, lent1.0, lent1.1)?;
-    if reports0.count() != reports1.count() {
-        return Err(4);
-    }
-    reports0.not_too_many()?;
-    for reports in [&reports0, &reports1] {
-        reports.numbers_in_group()?;
-    }
-    for reports in [&reports0, &reports1] {
-        reports.spare_bits_clear()?;
-    }
-    if lent0.1 != lent1.1 {
-        return Err(8);
-    }
+) -> Option<Outcome> {
     let mut record = Vec::new();
     let mut asked = query::first();
     loop {
-        let query = Query::read(n, &asked)?;
-        if record.len() + asked.len() + 8 * query.count > record_space {
-            return Err(11);
+        let query = Query::of(&asked);
+        if !judge::next_passes(query.count)
+            || !judge::level_fits(record_space, record.len(), query.length, query.count)
+        {
+            return None;
         }
-        let sums0 = reports0.sums(expander, false, &query);
-        let sums1 = reports1.sums(expander, true, &query);
-        let totals: Vec<u64> = sums0
-            .iter()
-            .zip(&sums1)
-            .map(|(&a, &b)| field::add(a, b))
-            .collect();
+        let totals = totals_of(&query);
         record.extend_from_slice(&asked);
         record.extend(totals.iter().flat_map(|&total| field::write(total)));
-        let list = match answer(n, t, &query, &totals)? {
+        let list = match answer(n, t, &query, &totals) {
             Answer::Next(next) => {
                 asked = next;
                 continue;
@@ -102,9 +96,7 @@ fn made(
             Answer::List(list) => list,
             Answer::Ended => Vec::new(),
         };
-        if list.len() > list_space {
-            return Err(11);
-        }
-        return Ok((record, list));
+        let count = list.len() / query::packed_size(n);
+        return judge::list_fits(list_space, n, count).then_some((record, list));
     }
 }

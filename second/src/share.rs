@@ -3,7 +3,7 @@
 use crate::expander::Expander;
 use crate::keys::{child, draw, head_size, public_share_size, xor, Level, Seed};
 use crate::query::{bit, Query};
-use crate::{bits_in_bounds, field, Reply, MOST_REPORTS};
+use crate::{field, judge, seed_of, Reply};
 
 /// A node of one server: its final seed, its control bit and its payload W.
 struct Node {
@@ -27,77 +27,25 @@ impl PublicShare<'_> {
     /// The corrections of level i, counted from 0.
     fn level(&self, i: usize) -> Level {
         let at = head_size(self.n) + 24 * i;
-        let mut seed = [0u8; 16];
-        seed.copy_from_slice(&self.bytes[at..at + 16]);
         Level {
             left: self.control(2 * i),
             right: self.control(2 * i + 1),
-            seed,
+            seed: seed_of(&self.bytes[at..at + 16]),
             payload: field::read(&self.bytes[at + 16..at + 24]),
         }
     }
-
-    /// Cause 6 somewhere in this share.
-    fn number_too_large(&self) -> bool {
-        (0..self.n).any(|i| self.level(i).payload >= field::P)
-    }
-
-    /// Cause 7 in this share.
-    fn spare_bits_set(&self) -> bool {
-        (2 * self.n..8 * head_size(self.n)).any(|at| self.control(at))
-    }
 }
 
-/// All reports lent to one server, their lengths in order.
+/// All reports lent to one server, as they were judged.
 pub struct Reports<'a> {
-    n: usize,
-    seeds: &'a [u8],
-    public_shares: &'a [u8],
+    pub n: usize,
+    pub seeds: &'a [u8],
+    pub public_shares: &'a [u8],
 }
 
 impl<'a> Reports<'a> {
-    /// Cause 4: whole seeds and whole public shares, equally many.
-    pub fn read(n: usize, seeds: &'a [u8], public_shares: &'a [u8]) -> Result<Reports<'a>, u64> {
-        let size = public_share_size(n);
-        if !seeds.len().is_multiple_of(16) || !public_shares.len().is_multiple_of(size) {
-            return Err(4);
-        }
-        if seeds.len() / 16 != public_shares.len() / size {
-            return Err(4);
-        }
-        Ok(Reports {
-            n,
-            seeds,
-            public_shares,
-        })
-    }
-
-    pub fn count(&self) -> usize {
+    fn count(&self) -> usize {
         self.seeds.len() / 16
-    }
-
-    /// Cause 5.
-    pub fn not_too_many(&self) -> Result<(), u64> {
-        if self.count() > MOST_REPORTS {
-            return Err(5);
-        }
-        Ok(())
-    }
-
-    /// Cause 6.
-    pub fn numbers_in_group(&self) -> Result<(), u64> {
-        if (0..self.count()).any(|i| self.public_share(i).number_too_large()) {
-            return Err(6);
-        }
-        Ok(())
-    }
-
-    /// Cause 7.
-    pub fn spare_bits_clear(&self) -> Result<(), u64> {
-        if (0..self.count()).any(|i| self.public_share(i).spare_bits_set()) {
-            return Err(7);
-        }
-        Ok(())
     }
 
     fn public_share(&self, i: usize) -> PublicShare<'a> {
@@ -109,9 +57,7 @@ impl<'a> Reports<'a> {
     }
 
     fn seed(&self, i: usize) -> Seed {
-        let mut seed = [0u8; 16];
-        seed.copy_from_slice(&self.seeds[16 * i..16 * i + 16]);
-        seed
+        seed_of(&self.seeds[16 * i..16 * i + 16])
     }
 
     /// The sum over all reports of the server's shares at one prefix.
@@ -179,29 +125,14 @@ pub fn share(
     share: &mut [u8],
 ) -> Reply {
     let space = share.len();
-    let made = made(n, expander, server, seeds, public_shares, query, space);
-    Reply::settle(made, share)
-}
-
-fn made(
-    n: u64,
-    expander: u64,
-    server: bool,
-    seeds: &[u8],
-    public_shares: &[u8],
-    query: &[u8],
-    space: usize,
-) -> Result<Vec<u8>, u64> {
-    let n = bits_in_bounds(n)?;
-    let expander = Expander::of(expander)?;
-    let reports = Reports::read(n, seeds, public_shares)?;
-    reports.not_too_many()?;
-    reports.numbers_in_group()?;
-    reports.spare_bits_clear()?;
-    let query = Query::read(n, query)?;
-    if 8 * query.count > space {
-        return Err(11);
-    }
-    let sums = reports.sums(expander, server, &query);
-    Ok(sums.into_iter().flat_map(field::write).collect())
+    let number = judge::share(n, expander, server, seeds, public_shares, query, space);
+    Reply::settle(number, share, || {
+        let reports = Reports {
+            n: n as usize,
+            seeds,
+            public_shares,
+        };
+        let sums = reports.sums(Expander::of(expander), server, &Query::of(query));
+        sums.into_iter().flat_map(field::write).collect()
+    })
 }

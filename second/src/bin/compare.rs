@@ -8,6 +8,9 @@ mod blocks;
 #[path = "compare/calls.rs"]
 mod calls;
 #[cfg(feature = "combine")]
+#[path = "compare/combine_cases.rs"]
+mod combine_cases;
+#[cfg(feature = "combine")]
 #[path = "compare/combines.rs"]
 mod combines;
 #[cfg(feature = "keys")]
@@ -69,7 +72,7 @@ fn main() -> ExitCode {
             }
         }
     }
-    println!("seed={seed} calls={count} of each kind, special calls besides");
+    println!("seed={seed} calls={count} of each kind, special and fixed calls besides");
     if NUMBERS.iter().all(|(_, on, _)| !on) {
         eprintln!("build with --features block, keys, combine, search or selftest");
         return ExitCode::from(2);

@@ -1,6 +1,7 @@
 //! Comparison of combining.
 
 use crate::calls;
+use crate::combine_cases;
 use crate::make::*;
 use crate::queries;
 use crate::tally::{shown, Outcome, Plan, Space, Tally};
@@ -21,12 +22,12 @@ const DAMAGES: [&str; 11] = [
     "room",
 ];
 
-struct Call {
-    n: u64,
-    t: u64,
-    query: Vec<u8>,
-    shares: [Vec<u8>; 2],
-    room: usize,
+pub struct Call {
+    pub n: u64,
+    pub t: u64,
+    pub query: Vec<u8>,
+    pub shares: [Vec<u8>; 2],
+    pub room: usize,
 }
 
 pub fn run(start: u64, count: usize, tally: &mut Tally) {
@@ -40,9 +41,9 @@ pub fn run(start: u64, count: usize, tally: &mut Tally) {
         };
         compare(&mut rng, &plan, call, tally);
     }
-    for (name, call) in specials(&mut rng) {
-        compare(&mut rng, &Plan::special(name), call, tally);
-    }
+    combine_cases::each(|name, wanted, call| {
+        compare(&mut rng, &Plan::fixed(name, wanted), call, tally);
+    });
 }
 
 /// Two shares with these totals.
@@ -61,7 +62,7 @@ fn damaged(rng: &mut Rng, plan: &Plan) -> Call {
     let n = good_n(rng, false);
     let t = good_t(rng);
     let query = queries::good(rng, n as usize, &[]);
-    let count = second::query::Query::read(n as usize, &query).map_or(0, |q| q.count);
+    let count = second::query::Query::of(&query).count;
     let low = rng.below(4) == 0 && !plan.has("room");
     let mut totals = Vec::new();
     for i in 0..count {
@@ -137,42 +138,6 @@ fn hostile(rng: &mut Rng) -> Call {
         call.query = queries::good(rng, call.n as usize, &[]);
     }
     call
-}
-
-/// Calls around the largest next query and the largest list.
-fn specials(rng: &mut Rng) -> Vec<(&'static str, Call)> {
-    let mut calls = Vec::new();
-    for (name, n, count, kept, room) in [
-        ("65535 kept", 18, 131_070, 65_535, 393_216),
-        ("65535 kept, short room", 18, 131_070, 65_535, 393_215),
-        ("65536 kept", 18, 131_070, 65_536, 500_000),
-        ("65536 kept, no room", 18, 131_070, 65_536, 0),
-        ("131070 kept", 18, 131_070, 131_070, 900_000),
-        ("131070 kept, list", 17, 131_070, 131_070, 393_210),
-        (
-            "131070 kept, list, short room",
-            17,
-            131_070,
-            131_070,
-            393_209,
-        ),
-        ("131071 prefixes", 17, 131_071, 131_071, 393_213),
-        ("131071 prefixes, none kept", 18, 131_071, 0, 400_000),
-    ] {
-        let t = good_t(rng);
-        let totals: Vec<u64> = (0..count)
-            .map(|i| if i < kept { t } else { t - 1 })
-            .collect();
-        let call = Call {
-            n,
-            t,
-            query: queries::long(17, count),
-            shares: split(rng, &totals),
-            room,
-        };
-        calls.push((name, call));
-    }
-    calls
 }
 
 fn compare(rng: &mut Rng, plan: &Plan, call: Call, tally: &mut Tally) {

@@ -1,6 +1,7 @@
 //! Makers of queries, right and wrong.
 
-use second::query::{pack, packed_size, unpack, write, Query};
+use second::judge::query_as_laid_out;
+use second::query::{pack, packed_size, unpack, write};
 use second::rng::Rng;
 use std::collections::BTreeSet;
 
@@ -29,7 +30,7 @@ pub fn good(rng: &mut Rng, n: usize, strings: &[Vec<bool>]) -> Vec<u8> {
 /// Damages a query until it is none for n.
 pub fn spoil(rng: &mut Rng, n: usize, query: &mut Vec<u8>) {
     let right = query.clone();
-    while Query::read(n, query).is_ok() {
+    while query_as_laid_out(n as u64, query) {
         *query = right.clone();
         once(rng, n, query);
     }
@@ -100,14 +101,14 @@ fn set_length(query: &mut [u8], field: usize) {
     query[..2].copy_from_slice(&(field as u16).to_be_bytes());
 }
 
-/// The first `count` prefixes of 17 or more bits, ascending.
+/// The query of `count` prefixes of 17 or more bits, told apart by their first 32 bits.
 pub fn long(length: usize, count: usize) -> Vec<u8> {
+    let shift = 32 - length.min(32);
     let prefixes: Vec<Vec<u8>> = (0..count)
         .map(|i| {
-            pack(&unpack(
-                &((i as u32) << (32 - length)).to_be_bytes(),
-                length,
-            ))
+            let mut prefix = ((i as u32) << shift).to_be_bytes().to_vec();
+            prefix.resize(packed_size(length), 0);
+            prefix
         })
         .collect();
     write(length, &prefixes)

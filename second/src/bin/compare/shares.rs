@@ -59,7 +59,7 @@ fn damaged(rng: &mut Rng, plan: &Plan) -> Call {
     let reports = reports(rng, bits, expander, count);
     let server = rng.coin();
     let query = queries::good(rng, bits, &reports.strings);
-    let asked = second::query::Query::read(bits, &query).map_or(0, |q| q.count);
+    let asked = second::query::Query::of(&query).count;
     let mut call = Call {
         n,
         expander,

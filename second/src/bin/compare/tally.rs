@@ -36,6 +36,8 @@ pub struct Outcome {
 pub struct Plan {
     pub kind: &'static str,
     pub damages: Vec<&'static str>,
+    /// The numbers that the call must return, where they are known beforehand.
+    pub wanted: Option<[u64; 3]>,
 }
 
 impl Plan {
@@ -58,13 +60,26 @@ impl Plan {
         }
         let at = i % all.len();
         let (kind, damages) = all.swap_remove(at);
-        Plan { kind, damages }
+        Plan {
+            kind,
+            damages,
+            wanted: None,
+        }
     }
 
     pub fn special(name: &'static str) -> Plan {
         Plan {
             kind: "special",
             damages: vec![name],
+            wanted: None,
+        }
+    }
+
+    pub fn fixed(name: &'static str, wanted: [u64; 3]) -> Plan {
+        Plan {
+            kind: "fixed",
+            damages: vec![name],
+            wanted: Some(wanted),
         }
     }
 
@@ -119,6 +134,9 @@ impl Tally {
         let mut text = String::new();
         if ours.numbers != theirs.numbers {
             text += &format!(" ours {:?} theirs {:?};", ours.numbers, theirs.numbers);
+        }
+        if let Some(wanted) = plan.wanted.filter(|wanted| ours.numbers != wanted) {
+            text += &format!(" ours {:?} wanted {wanted:?};", ours.numbers);
         }
         for (i, (a, b)) in ours.spaces.iter().zip(&theirs.spaces).enumerate() {
             if let Some(at) = (0..a.bytes.len()).find(|&at| a.bytes[at] != b.bytes[at]) {
