@@ -8,6 +8,11 @@ ghost use Rattle.bits.specs.Packing.{packedLength, unpack, spareZero, bytesBefo
 ghost use Rattle.tree.specs.Query.{prefixLength, prefixCount, parts, sparesZero, isAscending, isQuery};
 ghost use Rattle.query.specs.Prefix.{packedPrefix};
 
+mod writing;
+
+pub use writing::write_child;
+pub use writing::write_heading;
+
 // The prefix length of a query.
 pub fn prefix_length(q: &[u8]) -> usize
     ensures { λ r. ⌜ (r ≡ prefixLength (now (q .entry))) × (1 ≤ r) × (r ≤ 65536) ⌝ }
