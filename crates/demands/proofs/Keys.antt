@@ -1,17 +1,16 @@
 -- The key maker's outcome for an honest report. Assumes nothing.
 use mathlib.Core.Path.{_≡_, refl, sym, ap, ap₂, _∙_}
 use mathlib.Core.Bool.{true, not}
-use mathlib.Core.List.{List, [], _∷_, _++_}
+use mathlib.Core.List.{List}
 use Prim.Native.Nat.{ℕ, _≤_}
 use native.Mathlib.Omega.{arith}
 use borrow.Author.Tests.{le-ltb, eq-eqb}
 use lib.ListN.{length}
-use Rattle.bits.specs.Lists.{All}
 use Rattle.bits.specs.Strings.{Bits}
 use Rattle.bits.specs.Numbers.{Bytes}
 use Rattle.bits.specs.Packing.{packedLength, pack, unpack, spareZero}
 use Rattle.bits.proofs.Packed.{pack-length, unpack-pack, pack-spareZero}
-use Rattle.calls.specs.Causes.{Outcome, accepted}
+use Rattle.calls.specs.Causes.{accepted}
 use Rattle.calls.proofs.Decisions.{neither-test, in-bounds}
 use Rattle.calls.proofs.Judged.{judged-accepted, _&_}
 use Rattle.expander.specs.Expander.{choiceOf, under}
@@ -28,14 +27,14 @@ use Rattle.point.specs.Instance.{scheme}
 use Rattle.point.proofs.Honest.{report-bytes, report-passes}
 use Rattle.point.proofs.Instance.{scheme-lawful, p-fits}
 use Rattle.idpf.specs.Key.{keyCauses, keyBytes, keyOutcome}
-use Rattle.demands.specs.Honest.{Honest, oneByOne, lentShares}
+use Rattle.demands.proofs.Made.{HonestReport}
 
 -- Any string of n bits and any two seeds of 16 bytes make an honest report.
 pub honest-report : {n : ℕ} {string : Bits} {seed0 seed1 : List ℕ} → length string ≡ n → Bytes 16 seed0 → Bytes 16 seed1
-    → Honest n (record { string = string; seed0 = seed0; seed1 = seed1; weight = 1 })
+    → HonestReport n (record { string = string; seed0 = seed0; seed1 = seed1; weight = 1 })
 honest-report bits sized0 sized1 = record { made = record { bits = bits; in-group = omega arith; sized0 = sized0; sized1 = sized1 }; one = refl }
 
-module _ (e : Expander) (n : ℕ) (r : Report ℕ) (honest : Honest n r) where
+module _ (e : Expander) (n : ℕ) (r : Report ℕ) (honest : HonestReport n r) where
   -- the string read back from its packing
   string-read : unpack n (pack (r .string)) ≡ r .string
   string-read = ap (λ (m : ℕ). unpack m (pack (r .string))) (sym (honest .made .bits)) ∙ unpack-pack (r .string)
@@ -64,12 +63,3 @@ module _ (e : Expander) (n : ℕ) (r : Report ℕ) (honest : Honest n r) where
   key-passes =
       let passes = report-passes (scheme e) (scheme-lawful e) p-fits n r (honest .made) in
       (report-bytes (scheme e) (scheme-lawful e) p-fits n r (honest .made) .size, passes .0, passes .1)
-
--- What both servers are lent of public shares is what the key maker writes, report by report.
-pub lent-written : (e : Expander) (number : ℕ) → choiceOf number ≡ Known e → (n : ℕ) → 1 ≤ n → n ≤ 256 → (rs : List (Report ℕ)) → All (Honest n) rs
-    → lentShares e n rs ≡ oneByOne (λ r. keyOutcome n number (pack (r .string)) (r .seed0) (r .seed1) (publicShareLength n) .written) rs
-unfolding oneByOne
-lent-written e number named n from to [] honest = refl
-lent-written e number named n from to (r ∷ rs) honest =
-    ap₂ _++_ (sym (ap (λ (o : Outcome). o .written) (key-accepted e n r (honest .0) number named from to (publicShareLength n) (omega arith))))
-    (lent-written e number named n from to rs (honest .1))

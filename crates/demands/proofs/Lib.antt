@@ -1,5 +1,15 @@
+pub mod Made
 pub mod Pieces
 pub mod Keys
 pub mod Sums
 pub mod Shares
+pub mod Reports
+pub mod Reading
+pub mod Counted
+pub mod Accepting
+pub mod Making
+pub mod Room
+pub mod Demand1
+pub mod Demand2
+pub mod Demand3
 pub mod Sheet

@@ -1,14 +1,14 @@
 -- Pieces of one length, one for each report, laid one after the other: how many bytes they are, and where each lies. Assumes nothing.
-use mathlib.Core.Path.{_≡_, sym, ap₂, _∙_}
-use mathlib.Core.List.{List, [], _∷_}
+use mathlib.Core.Path.{_≡_, refl, sym, ap, ap₂, _∙_}
+use mathlib.Core.List.{List, [], _∷_, _++_}
 use Prim.Native.Nat.{ℕ, zero, suc, _+_, _*_, _<_}
 use native.Mathlib.Nat.{mul-zero, mul-suc}
 use native.Mathlib.Omega.{arith}
-use lib.ListN.{length, getD, take, drop, length-append}
+use lib.ListN.{length, getD, take, drop, length-append, length-drop, take-append-drop}
 use lib.Seq.{take-at, drop-at, drop-drop}
 use Rattle.bits.specs.Lists.{All}
 use Rattle.point.specs.Totals.{Report}
-use Rattle.demands.specs.Honest.{oneByOne}
+use Rattle.demands.proofs.Made.{oneByOne}
 
 -- what holds of all holds of the element at place i
 pub all-at : {A : Type 0} (P : A → Type 0) (xs : List A) (d : A) (i : ℕ) → All P xs → i < length xs → P (getD xs i d)
@@ -36,3 +36,17 @@ module _ (w : ℕ) (f : Report ℕ → List ℕ) where
   piece-at (r ∷ rs) d (suc i) a h =
       let e : w * suc i ≡ w + w * i = omega (arith, mul-suc w i) in
       rw (e, ← drop-drop (w * i) w, drop-at (f r) (oneByOne f rs) w (a .0)) (piece-at rs d i (a .1) (omega arith))
+
+  -- bytes whose piece at each place is that of the report there are all of them, one after the other
+  pub pieces-whole : (rs : List (Report ℕ)) (d : Report ℕ) (bytes : List ℕ) → length bytes ≡ w * length rs
+      → ((i : ℕ) → i < length rs → take w (drop (w * i) bytes) ≡ f (getD rs i d)) → bytes ≡ oneByOne f rs
+  unfolding oneByOne
+  pieces-whole [] d [] l h = refl
+  pieces-whole [] d (x ∷ xs) l h = absurd (omega (arith, l, mul-zero w))
+  pieces-whole (r ∷ rs) d bytes l h =
+      let more : length (drop w bytes) ≡ w * length rs = omega (arith, length-drop w bytes, l, mul-suc w (length rs)) in
+      sym (take-append-drop w bytes)
+      ∙ ap₂ _++_ (rw mul-zero at (h 0 (omega arith)))
+      (pieces-whole rs d (drop w bytes) more (λ i k.
+      let e : w + w * i ≡ w * suc i = omega (arith, mul-suc w i) in
+      ap (take w) (drop-drop (w * i) w bytes ∙ ap (λ (j : ℕ). drop j bytes) e) ∙ h (suc i) (omega arith)))

@@ -1,4 +1,4 @@
--- A server's outcome for honest reports: no cause applies, and both servers' numbers add to the number of holders. Assumes nothing.
+-- A server's outcome for honest reports: no cause applies. Assumes nothing.
 use mathlib.Core.Path.{_≡_, sym, ap, _∙_}
 use mathlib.Core.Bool.{Bool, true, false, not, _&&_}
 use mathlib.Core.List.{List, []}
@@ -9,7 +9,7 @@ use borrow.Author.Tests.{le-ltb, eq-eqb, leb-true, eqb-true}
 use lib.Dec.{leb, eqb}
 use lib.ListN.{length, getD, drop, length-map}
 use Rattle.bits.specs.Lists.{All}
-use Rattle.bits.specs.Strings.{count}
+use Rattle.bits.specs.Strings.{Bits}
 use Rattle.bits.specs.Packing.{packedLength, unpack}
 use Rattle.bits.proofs.Packed.{unpack-length}
 use Rattle.bits.proofs.Places.{window-length}
@@ -23,20 +23,21 @@ use Rattle.expander.specs.declared.Choice.{Choice}
 use Rattle.expander.specs.declared.Choice.the-variants.{Known}
 use Rattle.expander.proofs.Chosen.{known}
 use Rattle.group.specs.Modular.{p}
+use Rattle.point.specs.Share.{bitOf}
 use Rattle.point.specs.PublicShare.{publicShareLength, payloadsBelow, spareBitsZero}
-use Rattle.point.specs.Totals.{Report, strings, reportPublicShare}
+use Rattle.point.specs.Totals.{Report, reportPublicShare}
 use Rattle.point.specs.Instance.{scheme}
 use Rattle.point.proofs.Joined.{every-true}
 use Rattle.tree.specs.Query.{limit, prefixLength, prefixCount, packedPrefixes, prefixesOf, sparesZero, isAscending, isQuery}
 use Rattle.tree.specs.Search.{totals}
 use Rattle.tree.proofs.Lists.{and-left, and-right, all-map}
 use Rattle.tree.proofs.Queries.{parts-length, prefix-at}
-use Rattle.idpf.specs.Reports.{reportCount, publicShareAt}
+use Rattle.idpf.specs.Reports.{reportCount, publicShareAt, serverSum}
 use Rattle.idpf.specs.Share.{wrongLengths, payloadTooLarge, spareBitsSet, shareCauses, shareBytes, shareOutcome}
-use Rattle.demands.specs.Honest.{Honest, lentSeeds, lentShares, sumAt}
+use Rattle.demands.proofs.Made.{HonestReport, lentSeeds, lentShares, sumAt}
 use Rattle.demands.proofs.Pieces.{all-at, all-from}
 use Rattle.demands.proofs.Keys.{key-passes}
-use Rattle.demands.proofs.Sums.{shares-length, shares-number, seeds-length, seeds-number, lent-count, lent-public, sums-count}
+use Rattle.demands.proofs.Sums.{shares-length, shares-number, seeds-length, seeds-number, lent-count, lent-public}
 
 -- of six tests that pass together, the first and the fourth
 first-and-fourth : (a b c d e f : Bool) → (a && b && c && d && e && f) ≡ true → (a ≡ true) × (d ≡ true)
@@ -63,8 +64,9 @@ query-prefixes n query asks =
 
 -- At most 65,535 honest reports in a search of 1 to 256 bits, and the number of its expander.
 module _ (e : Expander) (number : ℕ) (named : choiceOf number ≡ Known e) (n : ℕ) (from : 1 ≤ n) (to : n ≤ 256)
-    (rs : List (Report ℕ)) (honest : All (Honest n) rs) (few : length rs ≤ 65535) where
-  lent-lengths : (b : Bool) → wrongLengths n (lentSeeds b rs) (lentShares e n rs) ≡ false
+    (rs : List (Report ℕ)) (honest : All (HonestReport n) rs) (few : length rs ≤ 65535) where
+  -- what server b is lent has the right lengths
+  pub lent-lengths : (b : Bool) → wrongLengths n (lentSeeds b rs) (lentShares e n rs) ≡ false
   lent-lengths b =
       let seeds : length (lentSeeds b rs) % 16 ≡ 0 = omega (arith, seeds-length e n from rs honest b) in
       let shares : length (lentShares e n rs) % publicShareLength n ≡ 0 =
@@ -80,26 +82,26 @@ module _ (e : Expander) (number : ℕ) (named : choiceOf number ≡ Known e) (n 
       let l : i < length rs = omega (arith, lent-count e n from rs honest b) in
       ap test (lent-public e n from rs honest d i l) ∙ all-at (λ r. test (reportPublicShare (scheme e) n r) ≡ true) rs d i a l
 
+  -- its payload corrections are below p, and its spare bits zero
+  pub lent-payloads : (b : Bool) → payloadTooLarge n (lentSeeds b rs) (lentShares e n rs) ≡ false
+  lent-payloads b = ap not (every-true _ _ (lent-pass b (payloadsBelow p n) (all-map (HonestReport n) _ (λ r h. key-passes e n r h .1) rs honest)))
+
+  pub lent-spares : (b : Bool) → spareBitsSet n (lentSeeds b rs) (lentShares e n rs) ≡ false
+  lent-spares b = ap not (every-true _ _ (lent-pass b (spareBitsZero n) (all-map (HonestReport n) _ (λ r h. key-passes e n r h .2) rs honest)))
+
   -- For a query and room for 8 bytes a prefix, server b succeeds and writes its sum at each prefix.
-  pub share-accepted : (b : Bool) (query : List ℕ) → isQuery n query ≡ true → (room : ℕ) → 8 * prefixCount query ≤ room
+  share-accepted : (b : Bool) (query : List ℕ) → isQuery n query ≡ true → (room : ℕ) → 8 * prefixCount query ≤ room
       → shareOutcome n number b (lentSeeds b rs) (lentShares e n rs) query room ≡ accepted (totals (sumAt e n rs b) (prefixesOf query))
   unfolding shareOutcome shareBytes
   share-accepted b query asks room fits =
       let reports : length (lentSeeds b rs) / 16 ≤ mostReports = omega (arith, seeds-number e n from rs honest b) in
-      let numbers : payloadTooLarge n (lentSeeds b rs) (lentShares e n rs) ≡ false =
-      ap not (every-true _ _ (lent-pass b (payloadsBelow p n) (all-map (Honest n) _ (λ r h. key-passes e n r h .1) rs honest))) in
-      let spare : spareBitsSet n (lentSeeds b rs) (lentShares e n rs) ≡ false =
-      ap not (every-true _ _ (lent-pass b (spareBitsZero n) (all-map (Honest n) _ (λ r h. key-passes e n r h .2) rs honest))) in
       judged-accepted (shareCauses n number (lentSeeds b rs) (lentShares e n rs) query room) _
       (in-bounds 256 n from to & ap not (known number e named) & lent-lengths b & le-ltb mostReports _ reports
-      & numbers & spare & ap not asks & le-ltb room (8 * prefixCount query) fits & tt)
+      & lent-payloads b & lent-spares b & ap not asks & le-ltb room (8 * prefixCount query) fits & tt)
       ∙ ap (λ (c : Choice). accepted (under c (shareBytes n b (lentSeeds b rs) (lentShares e n rs) query))) named
 
-  -- Both servers succeed, and prefix by prefix of the query what they write adds modulo p to the number of strings that have the prefix.
-  pub shares-count : (query : List ℕ) → isQuery n query ≡ true → (room : Bool → ℕ) → ((b : Bool) → 8 * prefixCount query ≤ room b)
-      → ((b : Bool) → shareOutcome n number b (lentSeeds b rs) (lentShares e n rs) query (room b) ≡ accepted (totals (sumAt e n rs b) (prefixesOf query)))
-      × All (λ q. (sumAt e n rs false q + sumAt e n rs true q) % p ≡ count (strings rs) q) (prefixesOf query)
-  shares-count query asks room fits = (
-    (λ b. share-accepted b query asks (room b) (fits b)),
-    all-map (λ q. (0 < length q) × (length q ≤ n)) _ (λ q h. sums-count e n from rs honest few q (h .0) (h .1)) (prefixesOf query) (query-prefixes n query asks),
-  )
+  -- So it does where it is lent what is equal.
+  pub share-lent : (b : Bool) (seeds shares : List ℕ) → seeds ≡ lentSeeds b rs → shares ≡ lentShares e n rs
+      → (query : List ℕ) → isQuery n query ≡ true → (room : ℕ) → 8 * prefixCount query ≤ room
+      → shareOutcome n number b seeds shares query room ≡ accepted (totals (λ (q : Bits). serverSum e n b seeds shares (bitOf q) (length q)) (prefixesOf query))
+  share-lent b seeds shares these those query asks room fits = rw (these, those) (share-accepted b query asks room fits)

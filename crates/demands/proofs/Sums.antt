@@ -19,7 +19,7 @@ use Rattle.point.proofs.Honest.{report-read}
 use Rattle.point.proofs.Instance.{scheme-lawful, p-fits, scheme-count}
 use Rattle.tree.proofs.Lists.{all-map}
 use Rattle.idpf.specs.Reports.{reportCount, seedAt, publicShareAt, sumBelow, lentShare, serverSum}
-use Rattle.demands.specs.Honest.{Honest, lentSeeds, lentShares, sumAt}
+use Rattle.demands.proofs.Made.{HonestReport, lentSeeds, lentShares, sumAt}
 use Rattle.demands.proofs.Pieces.{all-at, pieces-length, piece-at}
 use Rattle.demands.proofs.Keys.{key-passes}
 
@@ -40,9 +40,9 @@ sum-over f g (x ∷ xs) d h =
 
 -- ---- what is lent
 
-module _ (e : Expander) (n : ℕ) (from : 1 ≤ n) (rs : List (Report ℕ)) (honest : All (Honest n) rs) where
+module _ (e : Expander) (n : ℕ) (from : 1 ≤ n) (rs : List (Report ℕ)) (honest : All (HonestReport n) rs) where
   shares-sized : All (λ r. length (reportPublicShare (scheme e) n r) ≡ publicShareLength n) rs
-  shares-sized = all-map (Honest n) (λ r. length (reportPublicShare (scheme e) n r) ≡ publicShareLength n) (λ r h. key-passes e n r h .0) rs honest
+  shares-sized = all-map (HonestReport n) (λ r. length (reportPublicShare (scheme e) n r) ≡ publicShareLength n) (λ r h. key-passes e n r h .0) rs honest
 
   pub shares-length : length (lentShares e n rs) ≡ publicShareLength n * length rs
   shares-length = pieces-length (publicShareLength n) (reportPublicShare (scheme e) n) rs shares-sized
@@ -56,9 +56,9 @@ module _ (e : Expander) (n : ℕ) (from : 1 ≤ n) (rs : List (Report ℕ)) (hon
 
   module _ (b : Bool) where
     seeds-sized : All (λ r. length (rootSeed b r) ≡ 16) rs
-    seeds-sized = all-map (Honest n) (λ r. length (rootSeed b r) ≡ 16) (λ r h. go b r h) rs honest
+    seeds-sized = all-map (HonestReport n) (λ r. length (rootSeed b r) ≡ 16) (λ r h. go b r h) rs honest
       where
-        go : (b : Bool) (r : Report ℕ) → Honest n r → length (rootSeed b r) ≡ 16
+        go : (b : Bool) (r : Report ℕ) → HonestReport n r → length (rootSeed b r) ≡ 16
         go false r h = h .made .sized0 .size
         go true r h = h .made .sized1 .size
 
@@ -83,7 +83,7 @@ module _ (e : Expander) (n : ℕ) (from : 1 ≤ n) (rs : List (Report ℕ)) (hon
       unfolding lentShare
       lent-share d i h =
           ap₂ (λ (c : List ℕ) (s : List ℕ). share (scheme e) (readCorrection n c) s b (bitOf q) (length q)) (lent-public d i h) (lent-seed d i h)
-          ∙ report-read (scheme e) (scheme-lawful e) p-fits n (getD rs i d) (all-at (Honest n) rs d i honest h .made) b q fits
+          ∙ report-read (scheme e) (scheme-lawful e) p-fits n (getD rs i d) (all-at (HonestReport n) rs d i honest h .made) b q fits
 
       -- Server b's sum over what it is lent is its total over the reports.
       pub sum-total : sumAt e n rs b q ≡ serverTotal (scheme e) b q rs
@@ -99,7 +99,7 @@ module _ (e : Expander) (n : ℕ) (from : 1 ≤ n) (rs : List (Report ℕ)) (hon
   unfolding total fieldScheme
   totals-count few q some fits =
       scheme-count e n q some fits rs
-      (all-map (Honest n) _ (λ r h. h .made) rs honest) (all-map (Honest n) _ (λ r h. h .one) rs honest) few
+      (all-map (HonestReport n) _ (λ r h. h .made) rs honest) (all-map (HonestReport n) _ (λ r h. h .one) rs honest) few
 
   -- So do their sums over what they are lent.
   pub sums-count : length rs ≤ 65535 → (q : Bits) → 0 < length q → length q ≤ n → (sumAt e n rs false q + sumAt e n rs true q) % p ≡ count (strings rs) q

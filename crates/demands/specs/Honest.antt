@@ -1,35 +1,41 @@
--- Honest reports, and what the servers are lent for them: document 01, 'Keys and nodes'. Assumes nothing.
-use Prim.Native.Nat.{ℕ, _<_}
+-- Honest searches, and what is read of a search: document 01, 'Keys and nodes' and 'Words of demand 3'. Assumes nothing.
+use Prim.Native.Nat.{ℕ, _*_, _<_}
 use mathlib.Core.Path.{_≡_}
-use mathlib.Core.Bool.{Bool}
-use mathlib.Core.List.{List, [], _∷_, _++_}
-use lib.ListN.{length}
+use mathlib.Core.List.{List, []}
+use lib.ListN.{length, getD, take}
 use Rattle.bits.specs.Strings.{Bits}
-use Rattle.group.specs.Modular.{p}
-use Rattle.expander.specs.declared.Expander.{Expander}
-use Rattle.point.specs.Share.{bitOf}
-use Rattle.point.specs.Totals.{Report, Made, rootSeed, reportPublicShare}
-use Rattle.point.specs.Instance.{scheme}
-use Rattle.idpf.specs.Reports.{serverSum}
+use Rattle.bits.specs.Numbers.{Bytes}
+use Rattle.bits.specs.Packing.{pack}
+use Rattle.calls.specs.Causes.{Outcome, accepted}
+use Rattle.point.specs.PublicShare.{publicShareLength}
+use Rattle.tree.specs.Query.{OfLength}
+use Rattle.idpf.specs.Key.{keyOutcome}
+use Rattle.idpf.specs.Reports.{seedAt, publicShareAt}
+use Rattle.search.specs.Search.{Lent, searchNumber, recordLength, listLength, recordAfter, listAfter}
 
--- A report is honest in a search of n bits: its string has n bits, its root seeds 16 bytes each, and its weight is one.
-pub record Honest (n : ℕ) (r : Report ℕ) : Type 0 where
-  pub made : Made (λ x. x < p) n r
-  pub one : r .weight ≡ 1
+-- accepted: it returns 0
+abbrev pub Accepted : Lent → Type 0
+Accepted s = searchNumber s ≡ 0
 
--- what f gives for each report, one after the other
-unfoldable pub oneByOne : (Report ℕ → List ℕ) → List (Report ℕ) → List ℕ
-oneByOne f [] = []
-oneByOne f (r ∷ rs) = f r ++ oneByOne f rs
+-- its record: the bytes of the record area at exit, up to the record length that it returns
+abbrev pub recordRead : Lent → List ℕ
+recordRead s = take (recordLength s) (recordAfter s)
 
--- the root seeds that server b is lent: its own of each report
-abbrev pub lentSeeds : Bool → List (Report ℕ) → List ℕ
-lentSeeds b = oneByOne (rootSeed b)
+-- its list: the bytes of the list area at exit, up to the list length that it returns
+abbrev pub listRead : Lent → List ℕ
+listRead s = take (listLength s) (listAfter s)
 
--- the public shares that both servers are lent: what the key maker gave for each report, with the search's expander
-abbrev pub lentShares : Expander → ℕ → List (Report ℕ) → List ℕ
-lentShares e n = oneByOne (reportPublicShare (scheme e) n)
+-- what the key maker gives for the string x, with the search's length and expander and the root seeds lent for report i, each server's own
+abbrev pub keyAt : Lent → Bits → ℕ → Outcome
+keyAt s x i = keyOutcome (s .n) (s .expander) (pack x) (seedAt (s .seeds0) i) (seedAt (s .seeds1) i) (publicShareLength (s .n))
 
--- server b's sum over what it is lent, at the prefix q
-abbrev pub sumAt : Expander → ℕ → List (Report ℕ) → Bool → Bits → ℕ
-sumAt e n rs b q = serverSum e n b (lentSeeds b rs) (lentShares e n rs) (bitOf q) (length q)
+-- The reports of a search are honest, made for the strings xs: there are as many as strings, all of n bits; the root seeds are bytes; and for each
+-- report the public share that each server is lent is what the key maker gave for its string and its two root seeds.
+pub record Honest (s : Lent) (xs : List Bits) : Type 0 where
+  pub n-bits : OfLength (s .n) xs
+  pub seeds0 : Bytes (16 * length xs) (s .seeds0)
+  pub seeds1 : Bytes (16 * length xs) (s .seeds1)
+  pub shares0 : length (s .shares0) ≡ publicShareLength (s .n) * length xs
+  pub shares1 : length (s .shares1) ≡ publicShareLength (s .n) * length xs
+  pub made0 : (i : ℕ) → i < length xs → keyAt s (getD xs i []) i ≡ accepted (publicShareAt (s .n) (s .shares0) i)
+  pub made1 : (i : ℕ) → i < length xs → keyAt s (getD xs i []) i ≡ accepted (publicShareAt (s .n) (s .shares1) i)

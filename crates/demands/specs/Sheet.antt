@@ -1,5 +1,5 @@
 -- Document 01, 'Sheet of examples': the marked examples as one table. Assumes nothing.
-use Prim.Native.Nat.{ℕ, _+_, _-_, _%_}
+use Prim.Native.Nat.{ℕ, _+_, _-_, _%_, _≤_}
 use mathlib.Core.Path.{_≡_}
 use mathlib.Core.Bool.{Bool, true, false, cond}
 use mathlib.Core.List.{List, [], _∷_, _++_}
@@ -9,11 +9,16 @@ use Rattle.bits.specs.Numbers.{little, fromLittle}
 use Rattle.bits.specs.Packing.{pack}
 use Rattle.bits.specs.Places.{putAt}
 use Rattle.calls.specs.Causes.{Outcome, accepted}
+use Rattle.expander.specs.Expander.{isExpander}
 use Rattle.group.specs.Modular.{p}
 use Rattle.point.specs.PublicShare.{publicShareLength, levelStart}
-use Rattle.tree.specs.Query.{query}
+use Rattle.tree.specs.Query.{packs, query}
+use Rattle.tree.specs.Cut.{cuts}
+use Rattle.tree.specs.Space.{listSpace}
 use Rattle.idpf.specs.Key.{keyOutcome}
 use Rattle.idpf.specs.Share.{shareOutcome}
+use Rattle.search.specs.Search.{Lent, searchNumber}
+use Rattle.demands.specs.Honest.{Accepted, recordRead, listRead, Honest}
 
 -- A key of the sheet: the number of its expander, its string and its root seeds.
 pub record Key : Type 0 where
@@ -44,6 +49,12 @@ pub data Row : Type 0 where
   totalAt : Key → Bits → ℕ → Row
   -- a key, a prefix, a payload correction in place of the first, and the number that both servers return
   payloadAt : Key → Bits → ℕ → ℕ → Row
+  -- n, t and strings, and the record and the list that every accepted search of honest reports for them leaves, whatever its seeds and expander
+  searchOf : ℕ → ℕ → List Bits → List ℕ → List Bits → Row
+  -- n, t and strings, the bytes of the record area, and the number that every search of honest reports for them returns, if a list fits
+  numberWith : ℕ → ℕ → List Bits → ℕ → ℕ → Row
+  -- t and strings, and their cut strings
+  cutsOf : ℕ → List Bits → List Bits → Row
 
 -- what a row says
 abbrev pub Holds : Row → Type 0
@@ -54,6 +65,11 @@ Holds (totalAt k q t) =
     let server : Bool → Outcome = λ b. answer k (keyOf k .written) b q in
     (server false .number ≡ 0) × (server true .number ≡ 0) × ((fromLittle (server false .written) + fromLittle (server true .written)) % p ≡ t)
 Holds (payloadAt k q x number) = (answer k (withPayload k x) false q .number ≡ number) × (answer k (withPayload k x) true q .number ≡ number)
+Holds (searchOf n t xs bytes ss) = (s : Lent) → Honest s xs → s .n ≡ n → s .t ≡ t → Accepted s → (recordRead s ≡ bytes) × (listRead s ≡ packs ss)
+Holds (numberWith n t xs room number) =
+    (s : Lent) → Honest s xs → s .n ≡ n → s .t ≡ t → isExpander (s .expander) ≡ true → length (s .recordArea) ≡ room → listSpace n t (length xs) ≤ length (s .listArea)
+    → searchNumber s ≡ number
+Holds (cutsOf t xs ss) = cuts t xs ≡ ss
 
 -- s0 all zero
 abbrev pub zeroSeed : List ℕ
@@ -71,6 +87,28 @@ keyA = record { expander = 2; string = true ∷ []; seed0 = zeroSeed; seed1 = on
 abbrev pub keyH : Key
 keyH = record { expander = 2; string = true ∷ []; seed0 = zeroSeed; seed1 = zeroSeed }
 
+-- `00`, `01`, `10`, `11`, and `1`
+abbrev pub s00 : Bits
+s00 = false ∷ false ∷ []
+
+abbrev pub s01 : Bits
+s01 = false ∷ true ∷ []
+
+abbrev pub s10 : Bits
+s10 = true ∷ false ∷ []
+
+abbrev pub s11 : Bits
+s11 = true ∷ true ∷ []
+
+abbrev pub s1 : Bits
+s1 = true ∷ []
+
+-- a record of two levels: `0` and `1` with their totals, then `00` and `01` with theirs
+abbrev pub twoLevels : ℕ → ℕ → ℕ → ℕ → List ℕ
+twoLevels a b c d =
+    (0 ∷ 0 ∷ 0 ∷ 0 ∷ 0 ∷ 2 ∷ 0 ∷ 128 ∷ []) ++ (a ∷ replicate 7 0) ++ (b ∷ replicate 7 0)
+    ++ (0 ∷ 1 ∷ 0 ∷ 0 ∷ 0 ∷ 2 ∷ 0 ∷ 64 ∷ []) ++ (c ∷ replicate 7 0) ++ (d ∷ replicate 7 0)
+
 -- the marked examples
 abbrev pub table : List Row
 table =
@@ -80,10 +118,25 @@ table =
     ∷ sharesAt keyA (true ∷ []) 6 (p - 5)
     -- C
     ∷ sharesAt keyA (false ∷ []) 5 (p - 5)
+    -- D
+    ∷ searchOf 2 2 (s01 ∷ s01 ∷ s11 ∷ []) (twoLevels 2 1 0 2) (s01 ∷ [])
+    ∷ cutsOf 2 (s01 ∷ s01 ∷ s11 ∷ []) (s01 ∷ s01 ∷ s1 ∷ [])
+    -- E
+    ∷ searchOf 2 2 (s01 ∷ s01 ∷ s10 ∷ []) (twoLevels 2 1 0 2) (s01 ∷ [])
+    ∷ cutsOf 2 (s01 ∷ s01 ∷ s10 ∷ []) (s01 ∷ s01 ∷ s1 ∷ [])
+    -- F
+    ∷ searchOf 2 2 (s01 ∷ s00 ∷ s11 ∷ []) (twoLevels 2 1 1 1) []
+    ∷ cutsOf 2 (s01 ∷ s00 ∷ s11 ∷ []) (s01 ∷ s00 ∷ s1 ∷ [])
+    -- G
+    ∷ searchOf 1 1 [] ((0 ∷ 0 ∷ 0 ∷ 0 ∷ 0 ∷ 2 ∷ 0 ∷ 128 ∷ []) ++ replicate 16 0) []
+    ∷ numberWith 1 1 [] 24 0
     -- H
     ∷ totalAt keyH (true ∷ []) 1
     ∷ totalAt keyH (false ∷ []) 0
     -- I
     ∷ payloadAt keyA (true ∷ []) (p - 1) 0
     ∷ payloadAt keyA (true ∷ []) p 6
+    -- J
+    ∷ numberWith 2 2 (s01 ∷ s01 ∷ s11 ∷ []) 48 0
+    ∷ numberWith 2 2 (s01 ∷ s01 ∷ s11 ∷ []) 47 11
     ∷ []

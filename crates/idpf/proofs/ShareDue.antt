@@ -38,32 +38,32 @@ module _ (n : ℕ) (seeds shares : List ℕ) where
   abbrev other-count : Bool
   other-count = not (eqb (length seeds / 16) (length shares / publicShareLength n))
 
-  wrong : T (wrongLengths n seeds shares) → WrongLengths n seeds shares
+  pub wrong : T (wrongLengths n seeds shares) → WrongLengths n seeds shares
   wrong = either odd-seeds (odd-shares || other-count) (differ _ _) (either odd-shares other-count (differ _ _) (differ _ _))
 
-  wrong-test : WrongLengths n seeds shares → T (wrongLengths n seeds shares)
+  pub wrong-test : WrongLengths n seeds shares → T (wrongLengths n seeds shares)
   wrong-test = either-test odd-seeds (odd-shares || other-count) (differ-test _ _) (either-test odd-shares other-count (differ-test _ _) (differ-test _ _))
 
-  too-large : T (payloadTooLarge n seeds shares) → PayloadTooLarge n seeds shares
+  pub too-large : T (payloadTooLarge n seeds shares) → PayloadTooLarge n seeds shares
   unfolding payloadsBelow
   too-large t =
       let r = every-fails (reportCount n seeds shares) (λ i. payloadsBelow p n (publicShareAt n shares i)) (failed _ t) in
       let l = every-fails n (λ k. ltb (readCorrection n (publicShareAt n shares (r .0)) k .payload) p) (r .2) in
       (r .0, r .1, l .0, l .1, ltb-false _ p (l .2))
 
-  too-large-test : PayloadTooLarge n seeds shares → T (payloadTooLarge n seeds shares)
+  pub too-large-test : PayloadTooLarge n seeds shares → T (payloadTooLarge n seeds shares)
   unfolding payloadsBelow
   too-large-test h =
       let l : payloadsBelow p n (publicShareAt n shares (h .0)) ≡ false = every-false n _ (h .2) (h .3) (le-ltb _ p (h .4)) in
       failed-test (every-false (reportCount n seeds shares) (λ i. payloadsBelow p n (publicShareAt n shares i)) (h .0) (h .1) l)
 
-  bits-set : ((j : ℕ) → getD shares j 0 < 256) → T (spareBitsSet n seeds shares) → SpareBitsSet n seeds shares
+  pub bits-set : ((j : ℕ) → getD shares j 0 < 256) → T (spareBitsSet n seeds shares) → SpareBitsSet n seeds shares
   bits-set byte t =
       let r = every-fails (reportCount n seeds shares) (λ i. spareBitsZero n (publicShareAt n shares i)) (failed _ t) in
       let s = spare-set n (publicShareAt n shares (r .0)) (share-bytes n seeds shares (r .0) (r .1) byte .byte (n / 4)) .0 (r .2) in
       (r .0, r .1, s .0, s .1, s .2, s .3)
 
-  bits-set-test : ((j : ℕ) → getD shares j 0 < 256) → SpareBitsSet n seeds shares → T (spareBitsSet n seeds shares)
+  pub bits-set-test : ((j : ℕ) → getD shares j 0 < 256) → SpareBitsSet n seeds shares → T (spareBitsSet n seeds shares)
   bits-set-test byte h =
       let s = spare-set n (publicShareAt n shares (h .0)) (share-bytes n seeds shares (h .0) (h .1) byte .byte (n / 4)) .1 (h .2, h .3, h .4, h .5) in
       failed-test (every-false (reportCount n seeds shares) (λ i. spareBitsZero n (publicShareAt n shares i)) (h .0) (h .1) s)

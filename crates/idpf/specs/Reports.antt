@@ -5,7 +5,6 @@ use mathlib.Core.List.{List}
 use Prim.Native.Nat.{min}
 use lib.ListN.{length, getD, take, drop}
 use Rattle.bits.specs.Packing.{bitsOf}
-use Rattle.group.specs.Group.{Group}
 use Rattle.group.specs.Modular.{field}
 use Rattle.expander.specs.declared.Expander.{Expander}
 use Rattle.point.specs.Share.{share}

@@ -1,4 +1,5 @@
 // The tests of causes 6 and 7 on lent public shares.
+use crate::layout::level_start;
 use crate::layout::public_share_length;
 use crate::reports::report_count;
 ghost use mathlib.Core.Path.{_≡_};
@@ -14,7 +15,7 @@ ghost use Rattle.idpf.specs.Share.{payloadTooLarge, spareBitsSet};
 fn payload_below(n: u16, share: &[u8], k: u16) -> bool
     ensures { λ r. ⌜ r ≡ ltb (readCorrection n (now (share .entry)) k .payload) p ⌝ }
 {
-    let start = (n as usize + 3) / 4 + 24 * (k as usize);
+    let start = level_start(n, k);
     bits::numbers::read_le8(share, start + 16) < group::P
 }
 

@@ -57,12 +57,13 @@ pub fn server_sum(
 ) -> u64
     ensures { λ r. ⌜ (r ≡ serverSum e n b (now (seeds .entry)) (now (shares .entry)) (packedBit (now (prefix .entry))) k) × (r < p) ⌝ }
 {
-    let count = report_count(n, seeds, shares);
+    let mut left = report_count(n, seeds, shares);
     let mut sum = 0;
     let mut i = 0;
-    while i < count {
+    while 0 < left {
         sum = group::add(sum, lent_share(e, n, b, seeds, shares, prefix, k, i));
         i += 1;
+        left -= 1;
     }
     sum
 }

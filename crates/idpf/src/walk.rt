@@ -1,4 +1,5 @@
 // A server's walk: from the root seed down the levels of one public share, which is read in place.
+use crate::layout::level_start;
 use crate::node::Correction;
 use crate::node::Node;
 use crate::node::child;
@@ -21,7 +22,7 @@ pub(crate) fn read_correction(n: u16, bytes: &[u8], k: u16) -> Correction
     ensures { λ r. ⌜ correctionOf r ≡ readCorrection n (now (bytes .entry)) k ⌝ }
 {
     let level = k as usize;
-    let start = (n as usize + 3) / 4 + 24 * level;
+    let start = level_start(n, k);
     let control = bits::numbers::byte_at(bytes, level / 4);
     let place = 2 * (level % 4);
     Correction {
@@ -75,7 +76,8 @@ fn share_below(e: Expander, b: bool, c: Correction, x: bool, m: Node) -> u64
 {
     let below = corrected_child(e, c, x, m);
     let v = corrected_payload(e, c.payload, below);
-    if b { group::negate(v) } else { v }
+    let negated = group::negate(v);
+    if b { negated } else { v }
 }
 
 // Server b's node at the first k bits of a packed prefix, from its root seed.

@@ -19,7 +19,7 @@ pub peel : (m w : ℕ) → 0 < m → m * w ≡ w + (m - 1) * w
 peel zero w h = absurd (omega arith)
 peel (suc m) w h = let e : suc m - 1 ≡ m = omega arith in rw e (suc-mul m w ∙ omega arith)
 
-parts-step : (w m at : ℕ) (q : List ℕ) → 0 < m → parts w m (drop at q) ≡ take w (drop at q) ∷ parts w (m - 1) (drop (at + w) q)
+pub parts-step : (w m at : ℕ) (q : List ℕ) → 0 < m → parts w m (drop at q) ≡ take w (drop at q) ∷ parts w (m - 1) (drop (at + w) q)
 unfolding parts
 parts-step w zero at q h = absurd (omega arith)
 parts-step w (suc m) at q h = let e : suc m - 1 ≡ m = omega arith in rw (e, drop-drop w at q)
@@ -50,7 +50,7 @@ module _ (len w at m : ℕ) (q : List ℕ) (h : 0 < m) where
     both : (spareZero len (take w (drop at q)) && sparesZero len (parts w (m - 1) (drop (at + w) q))) ≡ true
     both = rw spares-step at z
 
-    spare-first : spareZero len (take w (drop at q)) ≡ true
+    pub spare-first : spareZero len (take w (drop at q)) ≡ true
     spare-first = and-left (spareZero len (take w (drop at q))) _ both
 
     pub spares-rest : sparesZero len (parts w (m - 1) (drop (at + w) q)) ≡ true

@@ -31,6 +31,11 @@ pub children-longer : (k : ℕ) (ps : List Bits) → OfLength k ps → OfLength 
 children-longer k ps a =
     all-children (λ p. length p ≡ k) (λ q. length q ≡ suc k) (λ p b e. omega (arith, length-append p (b ∷ []), e)) ps a
 
+-- and so are those of them that are kept
+pub kept-longer : (keeps : Bits → Bool) (k : ℕ) (ps : List Bits) → OfLength k ps → OfLength (suc k) (select keeps (children ps))
+kept-longer keeps k ps a =
+    all-select (λ q. length q ≡ suc k) keeps (children ps) (all-map (λ q. length q ≡ suc k) _ (λ q e _. e) (children ps) (children-longer k ps a))
+
 -- ---- the order
 
 before-snoc : (p q : Bits) (b c : Bool) → Before p q → Before (p ▹ b) (q ▹ c)

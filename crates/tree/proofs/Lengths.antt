@@ -16,8 +16,8 @@ use Rattle.tree.specs.Query.{OfLength, packs, query}
 use Rattle.tree.specs.Search.{start, children, totals, level, recordFrom, heading, headingLength, isKept, searchRecord, searchList}
 use Rattle.tree.specs.Cut.{honestRecord, honestList}
 use Rattle.tree.specs.Space.{levelLength, spaceFrom, recordSpace, listSpace}
-use Rattle.tree.proofs.Lists.{all-map, all-select, select-length, number-le}
-use Rattle.tree.proofs.Children.{children-length, children-longer}
+use Rattle.tree.proofs.Lists.{select-length, number-le}
+use Rattle.tree.proofs.Children.{children-length, children-longer, kept-longer}
 use Rattle.tree.proofs.Queries.{packs-length, query-length}
 use Rattle.tree.proofs.Kept.{list-length}
 use Rattle.tree.proofs.Totals.{heavy, Stands, stands-start, stands-kept, stands-few, kept-length}
@@ -45,16 +45,12 @@ module _ (keeps : Bits → Bool) where
   lengthFrom zero k ps = 0
   lengthFrom (suc m) k ps = levelLength k (length (children ps)) + lengthFrom m (suc k) (select keeps (children ps))
 
-  kept-longer : (k : ℕ) (ps : List Bits) → OfLength k ps → OfLength (suc k) (select keeps (children ps))
-  kept-longer k ps a =
-      all-select (λ q. length q ≡ suc k) keeps (children ps) (all-map (λ q. length q ≡ suc k) _ (λ q e _. e) (children ps) (children-longer k ps a))
-
   pub record-from-length : (T : Bits → ℕ) (m k : ℕ) (ps : List Bits) → OfLength k ps → length (recordFrom keeps T m k ps) ≡ lengthFrom m k ps
   record-from-length T zero k ps a = refl
   record-from-length T (suc m) k ps a =
       length-append (level T k (children ps)) (recordFrom keeps T m (suc k) (select keeps (children ps)))
       ∙ ap₂ _+_ (level-length T k (children ps) (children-longer k ps a))
-      (record-from-length T m (suc k) (select keeps (children ps)) (kept-longer k ps a))
+      (record-from-length T m (suc k) (select keeps (children ps)) (kept-longer keeps k ps a))
 
 module _ (reaches : ℕ → Bool) (T : Bits → ℕ) where
   -- The number of bytes of a record.

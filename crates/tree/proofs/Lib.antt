@@ -2,6 +2,7 @@ pub mod Lists
 pub mod Rearranging
 pub mod Prefixes
 pub mod Children
+pub mod Agree
 pub mod Queries
 pub mod Steps
 pub mod Kept

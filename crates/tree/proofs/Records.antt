@@ -15,6 +15,7 @@ use Rattle.tree.specs.Query.{query}
 use Rattle.tree.specs.Search.{start, children, totals, level, recordFrom}
 use Rattle.tree.proofs.Lists.{all-mem, mem-select, all-select}
 use Rattle.tree.proofs.Children.{mem-children, all-children}
+use Rattle.tree.proofs.Agree.{SameAt, kept-same, level-same}
 use Rattle.tree.proofs.Kept.{Open, open-snoc}
 use Rattle.tree.proofs.Cutting.{Agree}
 
@@ -32,20 +33,8 @@ module _ (reaches : ℕ → Bool) (T U : Bits → ℕ) where
   abbrev L : Bits → Bool
   L q = reaches (U q)
 
-  abbrev SameAt : Bits → Type 0
-  SameAt q = T q ≡ U q
-
-  kept-same : (qs : List Bits) → All SameAt qs → select K qs ≡ select L qs
-  kept-same [] a = refl
-  kept-same (q ∷ qs) a = rw (a .0, kept-same qs (a .1))
-
-  totals-same : (qs : List Bits) → All SameAt qs → totals T qs ≡ totals U qs
-  totals-same [] a = refl
-  totals-same (q ∷ qs) a = ap₂ (λ x s. little 8 x ++ s) (a .0) (totals-same qs (a .1))
-
-  level-same : (k : ℕ) (qs : List Bits) → All SameAt qs → level T k qs ≡ level U k qs
-  level-same k [] a = refl
-  level-same k (q ∷ qs) a = ap (λ r. query k (q ∷ qs) ++ r) (totals-same (q ∷ qs) a)
+  abbrev Same : Bits → Type 0
+  Same = SameAt T U
 
   -- Where the totals agree one bit past what both keep, the records are equal.
   module _ (same : (p : Bits) (b : Bool) → Open K p × Open L p → T (p ▹ b) ≡ U (p ▹ b)) where
@@ -55,19 +44,19 @@ module _ (reaches : ℕ → Bool) (T U : Bits → ℕ) where
     record-same : (m k : ℕ) (ps : List Bits) → All Both ps → recordFrom K T m k ps ≡ recordFrom L U m k ps
     record-same zero k ps a = refl
     record-same (suc m) k ps a =
-        let s = all-children Both SameAt same ps a in
+        let s = all-children Both Same same ps a in
         let o = all-children Both (λ q. K q ≡ true → Both q)
         (λ p b o h. (open-snoc K p b (o .0) h, open-snoc L p b (o .1) (ap reaches (sym (same p b o)) ∙ h))) ps a in
-        ap₂ _++_ (level-same k (children ps) s)
+        ap₂ _++_ (level-same T U k (children ps) s)
         (record-same m (suc k) (select K (children ps)) (all-select Both K (children ps) o)
-        ∙ ap (recordFrom L U m (suc k)) (kept-same (children ps) s))
+        ∙ ap (recordFrom L U m (suc k)) (kept-same T U reaches (children ps) s))
 
     pub agree→record : (n : ℕ) → recordFrom K T n 0 start ≡ recordFrom L U n 0 start
     agree→record n = record-same n 0 start ((tt, tt), tt)
 
   -- Where the records are equal, the totals agree one bit past what is kept.
   module _ (small : (q : Bits) → T q < 256 ^ 8) (small′ : (q : Bits) → U q < 256 ^ 8) where
-    totals-split : (qs : List Bits) (r s : List ℕ) → totals T qs ++ r ≡ totals U qs ++ s → All SameAt qs × (r ≡ s)
+    totals-split : (qs : List Bits) (r s : List ℕ) → totals T qs ++ r ≡ totals U qs ++ s → All Same qs × (r ≡ s)
     totals-split [] r s e = (tt, e)
     totals-split (q ∷ qs) r s e =
         let x = little 8 (T q) in
@@ -77,7 +66,7 @@ module _ (reaches : ℕ → Bool) (T U : Bits → ℕ) where
         let t = totals-split qs r s (h .1) in
         ((little-injective 8 (T q) (U q) (small q) (small′ q) (h .0), t .0), t .1)
 
-    level-split : (k : ℕ) (qs : List Bits) (r s : List ℕ) → level T k qs ++ r ≡ level U k qs ++ s → All SameAt qs × (r ≡ s)
+    level-split : (k : ℕ) (qs : List Bits) (r s : List ℕ) → level T k qs ++ r ≡ level U k qs ++ s → All Same qs × (r ≡ s)
     level-split k [] r s e = (tt, e)
     level-split k (q ∷ qs) r s e =
         let f = query k (q ∷ qs) in
@@ -86,11 +75,11 @@ module _ (reaches : ℕ → Bool) (T U : Bits → ℕ) where
     record-split : (m k : ℕ) (ps : List Bits) → recordFrom K T m k ps ≡ recordFrom L U m k ps
         → (p : Bits) → p ∈ ps → (r : Bits) (b : Bool) → length r < m → Open (λ q. K (p ++ q)) r → T ((p ++ r) ▹ b) ≡ U ((p ++ r) ▹ b)
     record-split zero k ps e p i r b l o = absurd (omega arith)
-    record-split (suc m) k ps e p i [] b l o = rw append-nil (all-mem SameAt ((level-split k (children ps) _ _ e) .0) (mem-children i b))
+    record-split (suc m) k ps e p i [] b l o = rw append-nil (all-mem Same ((level-split k (children ps) _ _ e) .0) (mem-children i b))
     record-split (suc m) k ps e p i (c ∷ r) b l o =
         let d = level-split k (children ps) _ _ e in
         rw (← append-assoc p (c ∷ []) r)
-        (record-split m (suc k) (select K (children ps)) (d .1 ∙ ap (recordFrom L U m (suc k)) (sym (kept-same (children ps) (d .0))))
+        (record-split m (suc k) (select K (children ps)) (d .1 ∙ ap (recordFrom L U m (suc k)) (sym (kept-same T U reaches (children ps) (d .0))))
         (p ▹ c) (mem-select K (mem-children i c) (o .0)) r b (omega arith) (simp append-assoc (o .1)))
 
     pub record→agree : (n : ℕ) → recordFrom K T n 0 start ≡ recordFrom L U n 0 start → Agree reaches n T U

@@ -1,6 +1,6 @@
--- `idpf::reports::server_sum` meets its contract. The loop's invariant: the sum of the first i shares. The measure is what is left. Assumes nothing.
+-- `idpf::reports::server_sum` meets its contract. The loop's invariant: the sum of the first i shares, and i and what is left make the count. The measure is what is left. Assumes nothing.
 use mathlib.Core.Path.{_≡_, ap, _∙_}
-use Prim.Native.Nat.{ℕ, _-_, _≤_, _<_}
+use Prim.Native.Nat.{ℕ, _+_, _<_}
 use native.Mathlib.Omega.{arith}
 use borrow.Author.Needs.{needs}
 use Rattle.group.specs.Modular.{p}
@@ -10,10 +10,11 @@ use Rattle.idpf.proofs.reports.server_sum.Statement.{statement}
 use Rattle.idpf.proofs.reports.server_sum.Tie as tie
 
 abbrev Inv-loop : tie.InvT-loop
-Inv-loop e n b seeds shares prefix k count sum₀ i₀ sum i = (sum ≡ sumBelow i (lentShare e n b seeds shares (packedBit prefix) k)) × (sum < p) × (i ≤ count)
+Inv-loop e n b seeds shares prefix k left₀ sum₀ i₀ left sum i =
+    (sum ≡ sumBelow i (lentShare e n b seeds shares (packedBit prefix) k)) × (sum < p) × (i + left ≡ left₀)
 
 abbrev μ-loop : tie.MeasureT-loop
-μ-loop e n b seeds shares prefix k count sum₀ i₀ sum i = count - i
+μ-loop e n b seeds shares prefix k left₀ sum₀ i₀ left sum i = left
 
 report-count-requires : tie.Need-report-count-requires Inv-loop μ-loop
 report-count-requires c κs = search needs
@@ -31,6 +32,9 @@ add-requires c κs = search needs
 
 add-i : tie.Need-add-i Inv-loop μ-loop
 add-i c = omega arith
+
+sub-left : tie.Need-sub-left Inv-loop μ-loop
+sub-left c = omega arith
 
 loop-less : tie.Need-loop-less Inv-loop μ-loop
 loop-less c = omega arith
@@ -66,6 +70,7 @@ server-sum-spec =
     lent-share-requires
     add-requires
     add-i
+    sub-left
     loop-less
     loop-again
     returns)

@@ -16,16 +16,17 @@ negate-requires c κs = search needs
 
 returns : tie.Need-returns
 returns c =
-    let d = c .before .before in
+    let g = c .before in
+    let d = g .before in
     let h = d .before in
     let a = h .before .args in (
-      below-negated (a .e) (correctionOf (a .c)) (a .x) (nodeOf (a .m)) (nodeOf (h .corrected-child .result)) (h .corrected-child .ensures) (d .corrected-payload .ensures .0) (a .b) (c .before .if1 .taken) (c .negate .ensures .0),
-      c .negate .ensures .1,
+      below-negated (a .e) (correctionOf (a .c)) (a .x) (nodeOf (a .m)) (nodeOf (h .corrected-child .result)) (h .corrected-child .ensures) (d .corrected-payload .ensures .0) (a .b) (c .if1 .taken) (g .negate .ensures .0),
+      g .negate .ensures .1,
     )
 
 returns-2 : tie.Need-returns-2
 returns-2 c =
-    let d = c .before in
+    let d = c .before .before in
     let h = d .before in
     let a = h .before .args in (
       below-plain (a .e) (correctionOf (a .c)) (a .x) (nodeOf (a .m)) (nodeOf (h .corrected-child .result)) (h .corrected-child .ensures) (d .corrected-payload .ensures .0) (a .b) (c .if1 .left),

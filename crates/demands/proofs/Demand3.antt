@@ -1,0 +1,44 @@
+-- Demand 3: what the record of an accepted search of honest reports tells, and how every record begins. Assumes nothing.
+use mathlib.Core.Path.{_≡_, sym, ap, ap₂, _∙_, subst}
+use mathlib.Core.Logic.{_↔_}
+use mathlib.Core.List.{List, _++_, append-assoc}
+use Prim.Native.Nat.{ℕ, _≤_}
+use lib.ListN.{length}
+use lib.Dec.{leb}
+use Rattle.bits.specs.Strings.{Bits}
+use Rattle.tree.specs.Query.{OfLength, query}
+use Rattle.tree.specs.Search.{start, children, totals, heading}
+use Rattle.tree.specs.Cut.{honestRecord, cuts, Rearranged}
+use Rattle.tree.proofs.Demands.{records-tell-cuts}
+use Rattle.tree.proofs.Steps as steps
+use Rattle.search.specs.Search.{Lent, reports, total, recordBytes, recordLength}
+use Rattle.search.proofs.Outcome.{accepted-clear}
+use Rattle.demands.specs.Honest.{Accepted, recordRead, Honest}
+use Rattle.demands.proofs.Reading.{record-read, record-whole}
+use Rattle.demands.proofs.Counted.{few-strings, accepted-record}
+
+-- For any two accepted searches of honest reports with equal string length and threshold, whatever the seeds, the expander and the number of reports
+-- of each, the records are equal in length and in every byte exactly when the two lists of cut strings are rearrangements of each other.
+pub demand-3 : (s u : Lent) (xs ys : List Bits) → Honest s xs → Honest u ys → s .n ≡ u .n → s .t ≡ u .t → Accepted s → Accepted u
+    → (recordRead s ≡ recordRead u) ↔ Rearranged (cuts (s .t) xs) (cuts (u .t) ys)
+demand-3 s u xs ys honest honest′ bits threshold ok ok′ =
+    let n-bits : OfLength (s .n) ys = rw (← bits) at (honest′ .n-bits) in
+    let records = records-tell-cuts (s .n) (s .t) xs ys (accepted-clear s ok .sound .some-bits) (honest .n-bits) n-bits
+    (few-strings s xs honest ok) (few-strings u ys honest′ ok′) in
+    let left = accepted-record s xs honest ok in
+    let right : recordRead u ≡ honestRecord (s .n) (s .t) ys =
+    accepted-record u ys honest′ ok′ ∙ ap₂ (λ (n t : ℕ). honestRecord n t ys) (sym bits) (sym threshold) in
+    subst (λ (t : ℕ). (recordRead s ≡ recordRead u) ↔ Rearranged (cuts (s .t) xs) (cuts t ys)) threshold
+    (λ same. records .0 (sym left ∙ same ∙ right), λ cut. left ∙ records .1 cut ∙ sym right)
+
+-- Whatever reports were lent, the record of an accepted search has the length that it returns, and lies in the record area.
+pub record-inside : (s : Lent) → Accepted s → (length (recordRead s) ≡ recordLength s) × (recordLength s ≤ length (s .recordArea))
+record-inside s ok = record-whole s ok
+
+-- Whatever reports were lent, the record of an accepted search begins with the first query, for `0` and `1`, and its two totals.
+pub record-begins : (s : Lent) → Accepted s
+    → (rest : List ℕ) × (recordRead s ≡ heading (reports s) ++ (query 0 (children start) ++ (totals (total s) (children start) ++ rest)))
+unfolding recordBytes
+record-begins s ok =
+    let begins = steps.record-begins (leb (s .t)) (total s) (reports s) (s .n) (accepted-clear s ok .sound .some-bits) in
+    (_, record-read s ok ∙ begins ∙ ap (λ (r : List ℕ). heading (reports s) ++ r) (append-assoc (query 0 (children start)) (totals (total s) (children start)) _))

@@ -1,0 +1,80 @@
+-- A search for strings of n bits depends on the totals of prefixes of 1 to n bits alone. Assumes nothing.
+use Prim.Native.Nat.{ℕ, zero, suc, _+_, _≤_, _<_}
+use native.Mathlib.Omega.{arith}
+use mathlib.Core.Path.{_≡_, refl, ap, ap₂, _∙_}
+use mathlib.Core.Bool.{Bool, _&&_}
+use mathlib.Core.List.{List, [], _∷_, _++_}
+use lib.ListN.{length}
+use lib.Dec.{leb}
+use Rattle.bits.specs.Lists.{All, select}
+use Rattle.bits.specs.Strings.{Bits}
+use Rattle.bits.specs.Numbers.{little}
+use Rattle.tree.specs.Query.{OfLength, query, limit}
+use Rattle.tree.specs.Search.{start, children, totals, level, keptFrom, fitsFrom, recordFrom, heading, isKept, searchRecord, searchList, searchFits}
+use Rattle.tree.proofs.Lists.{all-map}
+use Rattle.tree.proofs.Children.{children-longer, kept-longer}
+
+-- ---- totals that agree at the prefixes of one query
+
+module _ (T U : Bits → ℕ) where
+  abbrev pub SameAt : Bits → Type 0
+  SameAt q = T q ≡ U q
+
+  pub kept-same : (reaches : ℕ → Bool) (qs : List Bits) → All SameAt qs → select (isKept reaches T) qs ≡ select (isKept reaches U) qs
+  kept-same reaches [] a = refl
+  kept-same reaches (q ∷ qs) a = rw (a .0, kept-same reaches qs (a .1))
+
+  totals-same : (qs : List Bits) → All SameAt qs → totals T qs ≡ totals U qs
+  totals-same [] a = refl
+  totals-same (q ∷ qs) a = ap₂ (λ x s. little 8 x ++ s) (a .0) (totals-same qs (a .1))
+
+  pub level-same : (k : ℕ) (qs : List Bits) → All SameAt qs → level T k qs ≡ level U k qs
+  level-same k [] a = refl
+  level-same k (q ∷ qs) a = ap (λ r. query k (q ∷ qs) ++ r) (totals-same (q ∷ qs) a)
+
+-- ---- totals that agree at all prefixes of 1 to n bits
+
+module _ (reaches : ℕ → Bool) (T U : Bits → ℕ) (n : ℕ) (same : (q : Bits) → 0 < length q → length q ≤ n → T q ≡ U q) where
+  abbrev K : Bits → Bool
+  K q = reaches (T q)
+
+  abbrev L : Bits → Bool
+  L q = reaches (U q)
+
+  asked-same : (k : ℕ) (ps : List Bits) → OfLength k ps → k < n → All (SameAt T U) (children ps)
+  asked-same k ps a l = all-map (λ q. length q ≡ suc k) (SameAt T U) (λ q e. same q (omega (arith, e)) (omega (arith, e))) (children ps) (children-longer k ps a)
+
+  kept-from-same : (m k : ℕ) (ps : List Bits) → OfLength k ps → k + m ≤ n → keptFrom K m ps ≡ keptFrom L m ps
+  kept-from-same zero k ps a l = refl
+  kept-from-same (suc m) k ps a l =
+      kept-from-same m (suc k) (select K (children ps)) (kept-longer K k ps a) (omega arith)
+      ∙ ap (keptFrom L m) (kept-same T U reaches (children ps) (asked-same k ps a (omega arith)))
+
+  fits-from-same : (m k : ℕ) (ps : List Bits) → OfLength k ps → k + m ≤ n → fitsFrom K m ps ≡ fitsFrom L m ps
+  fits-from-same zero k ps a l = refl
+  fits-from-same (suc m) k ps a l =
+      ap (λ (b : Bool). leb (length (children ps)) limit && b)
+      (fits-from-same m (suc k) (select K (children ps)) (kept-longer K k ps a) (omega arith)
+      ∙ ap (fitsFrom L m) (kept-same T U reaches (children ps) (asked-same k ps a (omega arith))))
+
+  record-from-same : (m k : ℕ) (ps : List Bits) → OfLength k ps → k + m ≤ n → recordFrom K T m k ps ≡ recordFrom L U m k ps
+  record-from-same zero k ps a l = refl
+  record-from-same (suc m) k ps a l =
+      ap₂ _++_ (level-same T U k (children ps) (asked-same k ps a (omega arith)))
+      (record-from-same m (suc k) (select K (children ps)) (kept-longer K k ps a) (omega arith)
+      ∙ ap (recordFrom L U m (suc k)) (kept-same T U reaches (children ps) (asked-same k ps a (omega arith))))
+
+  -- The prefixes kept of each length are the same.
+  pub list-agrees : (k : ℕ) → k ≤ n → searchList reaches T k ≡ searchList reaches U k
+  unfolding searchList
+  list-agrees k l = kept-from-same k 0 start (refl, tt) (omega arith)
+
+  -- So is whether every query is within the limit.
+  pub fits-agree : searchFits reaches T n ≡ searchFits reaches U n
+  unfolding searchFits
+  fits-agree = fits-from-same n 0 start (refl, tt) (omega arith)
+
+  -- So is the record.
+  pub record-agrees : (C : ℕ) → searchRecord reaches T C n ≡ searchRecord reaches U C n
+  unfolding searchRecord
+  record-agrees C = ap (λ (r : List ℕ). heading C ++ r) (record-from-same n 0 start (refl, tt) (omega arith))
