@@ -1,10 +1,13 @@
 // The functions that C and Rust link.
 use calls::Reply;
+use combine::Combined;
 use expander::Choice;
 ghost use mathlib.Core.Path.{_≡_};
 ghost use lib.ListN.{length};
 ghost use Rattle.bits.specs.Places.{overlay};
 ghost use Rattle.capi.specs.Block.{blockOutcome};
+ghost use Rattle.capi.specs.Combined.{kindNumber};
+ghost use Rattle.combine.specs.Combine.{combineOutcome, combineKind};
 ghost use Rattle.idpf.specs.Key.{keyOutcome};
 ghost use Rattle.idpf.specs.Share.{shareOutcome};
 
@@ -77,4 +80,52 @@ pub extern "C" fn tally_share(
     ensures space { λ r. ⌜ now (share .exit) ≡ overlay (shareOutcome n expander server (now (seeds .entry)) (now («public_shares» .entry)) (now (query .entry)) (length (now (share .entry))) .written) (now (share .entry)) ⌝ }
 {
     idpf::share(n, expander, server, seeds, public_shares, query, share)
+}
+
+// What combining returns: the number of the cause that refused it, or 0; the kind of its answer, 0 for a refusal, 1 for the next query, 2 for the
+// list, 3 where the search ended; and how many bytes were written.
+#[repr(C)]
+pub struct CombineReply {
+    pub number: u64,
+    pub kind: u64,
+    pub length: u64,
+}
+
+// Writes the next query, or at length n the list, from two servers' shares for a query; refuses with 1, 2, 4, 6, 9 or 11.
+#[no_mangle]
+pub extern "C" fn tally_combine(
+    n: u64,
+    t: u64,
+    query: &[u8],
+    share0: &[u8],
+    share1: &[u8],
+    out: &mut [u8],
+) -> CombineReply
+    ensures number { λ r. ⌜ r .number ≡ combineOutcome n t (now (query .entry)) (now (share0 .entry)) (now (share1 .entry)) (length (now (out .entry))) .number ⌝ }
+    ensures kind { λ r. ⌜ r .kind ≡ kindNumber (combineKind n t (now (query .entry)) (now (share0 .entry)) (now (share1 .entry)) (length (now (out .entry)))) ⌝ }
+    ensures written { λ r. ⌜ r .length ≡ length (combineOutcome n t (now (query .entry)) (now (share0 .entry)) (now (share1 .entry)) (length (now (out .entry))) .written) ⌝ }
+    ensures space { λ r. ⌜ now (out .exit) ≡ overlay (combineOutcome n t (now (query .entry)) (now (share0 .entry)) (now (share1 .entry)) (length (now (out .entry))) .written) (now (out .entry)) ⌝ }
+{
+    match combine::combine(n, t, query, share0, share1, out) {
+        Combined::Next(length) => CombineReply {
+            number: 0,
+            kind: 1,
+            length,
+        },
+        Combined::List(length) => CombineReply {
+            number: 0,
+            kind: 2,
+            length,
+        },
+        Combined::Ended => CombineReply {
+            number: 0,
+            kind: 3,
+            length: 0,
+        },
+        Combined::Refused(number) => CombineReply {
+            number,
+            kind: 0,
+            length: 0,
+        },
+    }
 }

@@ -1,0 +1,127 @@
+-- The number that `combine` returns is the one that is due, where the query is bytes. Assumes nothing.
+use Prim.Native.Nat.{ℕ, _*_, _%_, _≤_, _<_}
+use mathlib.Core.Path.{_≡_, refl, sym, subst, _∙_}
+use mathlib.Core.Bool.{Bool, true, false, not, true≢false, _&&_, _||_}
+use mathlib.Core.List.{List, [], _∷_}
+use mathlib.Core.List.{List·Memᴰ·head as here, List·Memᴰ·tail as there}
+use borrow.Author.Tests.{le-ltb, ltb-false}
+use lib.ListN.{length, getD}
+use lib.Dec.{T, eqb, ltb, ltb→lt, lt→ltb, not-T}
+use Rattle.bits.specs.Lists.{_∈_}
+use Rattle.calls.specs.Bounds.{lengthOutside, thresholdOutside}
+use Rattle.calls.specs.Clauses.{Due}
+use Rattle.calls.proofs.Decisions.{passed, failed, failed-test, differ, differ-test, either, either-test, beyond, beyond-test}
+use Rattle.calls.proofs.Judged.{due, none, next as also}
+use Rattle.group.specs.Modular.{p}
+use Rattle.tree.specs.Query.{limit, IsQuery, isQuery, prefixCount}
+use Rattle.tree.proofs.Queries.{query-exact}
+use Rattle.combine.specs.Answer.{numbers, Answer, next, list, ended}
+use Rattle.combine.specs.Combine.{WrongShares, wrongShares, NumberTooLarge, allBelow, PassesLimit, passesLimit, combineAnswer, combineBytes, combineClauses, combineOutcome}
+
+-- ---- each test decides its clause
+
+both : {P Q : Type 0} (a b : Bool) → (T a → P) → (T b → Q) → T (a && b) → P × Q
+both true b f g t = (f tt, g t)
+both false b f g t = absurd t
+
+both-test : {P Q : Type 0} (a b : Bool) → (P → T a) → (Q → T b) → P × Q → T (a && b)
+both-test true b f g h = g (h .1)
+both-test false b f g h = absurd (f (h .0))
+
+-- a number that is not below p
+some-large : (xs : List ℕ) → allBelow xs ≡ false → (x : ℕ) × (x ∈ xs) × (p ≤ x)
+unfolding allBelow
+some-large [] h = absurd (true≢false h)
+some-large (x ∷ xs) h = go (ltb x p) refl h (some-large xs)
+  where
+    go : (b : Bool) → ltb x p ≡ b → (b && allBelow xs) ≡ false → (allBelow xs ≡ false → (y : ℕ) × (y ∈ xs) × (p ≤ y)) → (y : ℕ) × (y ∈ x ∷ xs) × (p ≤ y)
+    go true e h f = let w = f h in (w .0, there (w .1), w .2)
+    go false e h f = (x, here refl, ltb-false x p e)
+
+large-fails : (x : ℕ) (xs : List ℕ) → x ∈ xs → p ≤ x → allBelow xs ≡ false
+unfolding allBelow
+large-fails x (y ∷ xs) (here e) l = let k : p ≤ y = subst (λ (z : ℕ). p ≤ z) e l in rw (le-ltb y p k)
+large-fails x (y ∷ xs) (there m) l = go (ltb y p) (large-fails x xs m l)
+  where
+    go : (b : Bool) → allBelow xs ≡ false → (b && allBelow xs) ≡ false
+    go true h = h
+    go false h = refl
+
+too-large : (s : List ℕ) → T (not (allBelow (numbers s))) → NumberTooLarge s
+too-large s t = some-large (numbers s) (failed (allBelow (numbers s)) t)
+
+too-large-test : (s : List ℕ) → NumberTooLarge s → T (not (allBelow (numbers s)))
+too-large-test s h = failed-test (large-fails (h .0) (numbers s) (h .1) (h .2))
+
+passes : (a : Answer) → T (passesLimit a) → PassesLimit a
+passes (next qs) t = ltb→lt limit (length qs) t
+passes (list ss) t = t
+passes ended t = t
+
+passes-test : (a : Answer) → PassesLimit a → T (passesLimit a)
+passes-test (next qs) h = lt→ltb limit (length qs) h
+passes-test (list ss) h = h
+passes-test ended h = h
+
+-- ---- the number that is due
+
+module _ (n t : ℕ) (query share0 share1 : List ℕ) (room : ℕ) (byte : (i : ℕ) → getD query i 0 < 256) where
+  a-query : T (isQuery n query) → IsQuery n query
+  a-query h = query-exact n query byte .0 (passed (isQuery n query) h)
+
+  a-query-test : IsQuery n query → isQuery n query ≡ true
+  a-query-test = query-exact n query byte .1
+
+  a-query-holds : IsQuery n query → T (isQuery n query)
+  a-query-holds q = rw (a-query-test q) tt
+
+  abbrev lengths-differ : Bool
+  lengths-differ = not (eqb (length share0) (length share1))
+
+  abbrev odd-length : Bool
+  odd-length = not (eqb (length share0 % 8) 0)
+
+  abbrev other-count : Bool
+  other-count = not (eqb (length share0) (8 * prefixCount query))
+
+  wrong : T (wrongShares n query share0 share1) → WrongShares n query share0 share1
+  wrong =
+      either lengths-differ (odd-length || (isQuery n query && other-count)) (differ _ _)
+      (either odd-length (isQuery n query && other-count) (differ _ _) (both (isQuery n query) other-count a-query (differ _ _)))
+
+  wrong-test : WrongShares n query share0 share1 → T (wrongShares n query share0 share1)
+  wrong-test =
+      either-test lengths-differ (odd-length || (isQuery n query && other-count)) (differ-test _ _)
+      (either-test odd-length (isQuery n query && other-count) (differ-test _ _)
+      (both-test (isQuery n query) other-count a-query-holds (differ-test _ _)))
+
+  abbrev large0 : Bool
+  large0 = not (allBelow (numbers share0))
+
+  abbrev large1 : Bool
+  large1 = not (allBelow (numbers share1))
+
+  abbrev no-room : Bool
+  no-room = ltb room (length (combineBytes n t query share0 share1))
+
+  abbrev past-limit : Bool
+  past-limit = passesLimit (combineAnswer n t query share0 share1)
+
+  -- for all numbers and shares, where each element of the query is below 256
+  pub combine-due : Due (combineClauses n t query share0 share1 room) (combineOutcome n t query share0 share1 room .number)
+  unfolding combineOutcome
+  combine-due =
+      due
+      (also {b = lengthOutside n} (beyond 256 n) (beyond-test 256 n)
+      (also {b = thresholdOutside t} (beyond 65535 t) (beyond-test 65535 t)
+      (also {b = wrongShares n query share0 share1} wrong wrong-test
+      (also {b = large0 || large1}
+      (either large0 large1 (too-large share0) (too-large share1))
+      (either-test large0 large1 (too-large-test share0) (too-large-test share1))
+      (also {b = not (isQuery n query)}
+      (λ h q. true≢false (sym (a-query-test q) ∙ failed (isQuery n query) h))
+      (λ g. not-T (isQuery n query) (λ h. g (a-query h)))
+      (also {b = no-room || past-limit}
+      (either no-room past-limit (ltb→lt room _) (passes (combineAnswer n t query share0 share1)))
+      (either-test no-room past-limit (lt→ltb room _) (passes-test (combineAnswer n t query share0 share1))) none))))))
+      _

@@ -1,0 +1,82 @@
+-- The next query that `combine` writes passes 9. Assumes nothing.
+use Prim.Native.Nat.{ℕ, _≤_, _<_}
+use native.Mathlib.Omega.{arith}
+use mathlib.Core.Path.{_≡_, refl, ap, _∙_}
+use mathlib.Core.Bool.{Bool, true, false, cond}
+use mathlib.Core.List.{List, [], _∷_}
+use borrow.Author.Tests.{eqb-false, ltb-false}
+use lib.ListN.{length, getD}
+use lib.Dec.{leb, ltb, eqb}
+use Rattle.bits.specs.Lists.{All}
+use Rattle.bits.specs.Strings.{Bits, Before, Ascending}
+use Rattle.calls.proofs.Decisions.{neither}
+use Rattle.calls.proofs.Judged.{judged-clear, judged-accepted}
+use Rattle.group.specs.Modular.{field}
+use Rattle.tree.specs.Query.{query, limit, IsQuery, prefixLength, prefixesOf}
+use Rattle.tree.specs.Search.{children}
+use Rattle.tree.proofs.Asked.{next-query}
+use Rattle.tree.proofs.Queries.{ascending-test}
+use Rattle.query.proofs.Ready.{ready as query-ready}
+use Rattle.combine.specs.Answer.{numbers, added, kept, next, list, further, answer, answerBytes}
+use Rattle.combine.specs.Combine.{keptPrefixes, combineAnswer, combineBytes, passesLimit, combineCauses, combineOutcome}
+use Rattle.combine.proofs.Ready.{Ready, clear-ready, all-kept, kept-long}
+
+-- kept prefixes of ascending ones are ascending
+kept-ascending : (f : ℕ → Bool) (qs : List Bits) (xs : List ℕ) → Ascending qs → Ascending (kept f qs xs)
+kept-ascending f [] xs a = tt
+kept-ascending f (q ∷ qs) [] a = tt
+kept-ascending f (q ∷ qs) (x ∷ xs) a = go (f x) (kept-ascending f qs xs (a .1))
+  where
+    go : (b : Bool) → Ascending (kept f qs xs) → Ascending (cond b (q ∷ kept f qs xs) (kept f qs xs))
+    go true h = (all-kept (Before q) f qs xs (a .0), h)
+    go false h = h
+
+-- an answer that goes on: before length n, and the children of kept prefixes
+pub record GoesOn (n k : ℕ) (ps qs : List Bits) : Type 0 where
+  pub not-end : k ≡ n → ⊥
+  pub some : 1 ≤ length ps
+  pub both : qs ≡ children ps
+
+goes-on : (n k : ℕ) (ps qs : List Bits) → answer n k ps ≡ next qs → GoesOn n k ps qs
+goes-on n k ps qs e = go (eqb k n) refl ps e
+  where
+    go : (b : Bool) → eqb k n ≡ b → (ps : List Bits) → cond b (list ps) (further ps) ≡ next qs → GoesOn n k ps qs
+    go true f ps e = let z : _≡_ {A = ℕ} 0 1 = cc in absurd (omega arith)
+    go false f [] e = let z : _≡_ {A = ℕ} 0 1 = cc in absurd (omega arith)
+    go false f (p ∷ ps) e = record { not-end = eqb-false k n f; some = omega arith; both = cc }
+
+module _ (n t : ℕ) (q s0 s1 : List ℕ) (room : ℕ) (byte : (i : ℕ) → getD q i 0 < 256) (qs : List Bits)
+    (e : combineAnswer n t q s0 s1 ≡ next qs) (z : combineOutcome n t q s0 s1 room .number ≡ 0) where
+  no-causes : All (λ c. c .applies ≡ false) (combineCauses n t q s0 s1 room)
+  unfolding combineOutcome
+  no-causes =
+      judged-clear (combineCauses n t q s0 s1 room) (combineBytes n t q s0 s1)
+      (omega arith, (omega arith, (omega arith, (omega arith, (omega arith, (omega arith, tt)))))) z
+
+  all-well : Ready n t q s0 s1
+  all-well =
+      let c = no-causes in
+      clear-ready n t q s0 s1 (c .0, (c .1 .0, (c .1 .1 .0, (c .1 .1 .1 .0, (c .1 .1 .1 .1 .0, tt)))))
+
+  not-more : length qs ≤ limit
+  not-more =
+      let c = neither (ltb room (length (combineBytes n t q s0 s1))) (passesLimit (combineAnswer n t q s0 s1)) (no-causes .1 .1 .1 .1 .1 .0) in
+      ltb-false limit (length qs) (rw e at (c .1))
+
+  -- It is the query for the prefixes qs,
+  pub next-written : combineOutcome n t q s0 s1 room .written ≡ query (prefixLength q) qs
+  unfolding combineOutcome
+  next-written =
+      ap (λ o. o .written) (judged-accepted (combineCauses n t q s0 s1 room) (combineBytes n t q s0 s1) no-causes) ∙ ap (answerBytes (prefixLength q)) e
+
+  -- and passes 9.
+  pub next-passes : IsQuery n (combineOutcome n t q s0 s1 room .written)
+  next-passes =
+      let ks = keptPrefixes t q s0 s1 in
+      let g = goes-on n (prefixLength q) ks qs e in
+      let r = query-ready n q (all-well .a-query) in
+      let k : prefixLength q < n = omega (arith, r .not-longer, g .not-end) in
+      let f : length (children ks) ≤ limit = rw (← g .both) not-more in
+      let a = kept-ascending (leb t) (prefixesOf q) (added field (numbers s0) (numbers s1)) (ascending-test (prefixesOf q) .0 (r .ascending)) in
+      rw (next-written, g .both)
+      (next-query n (prefixLength q) ks k (omega (arith, all-well .not-longer)) (g .some) f (kept-long n t q s0 s1 byte all-well) a)

@@ -1,0 +1,155 @@
+-- The outcome of `combine`, case by case. Assumes nothing.
+use Prim.Native.Nat.{ℕ, _<_}
+use native.Mathlib.Omega.{arith}
+use mathlib.Core.Path.{_≡_, refl, sym, ap, _∙_}
+use mathlib.Core.Bool.{Bool, true, false, cond, not, _&&_, _||_}
+use mathlib.Core.List.{List, [], _∷_, _++_}
+use mathlib.Core.Option.{some}
+use borrow.Author.Tests.{eq-eqb, ne-eqb}
+use lib.ListN.{length}
+use lib.Dec.{ltb}
+use Rattle.bits.specs.Lists.{All}
+use Rattle.bits.specs.Strings.{Bits}
+use Rattle.bits.specs.Places.{overlay}
+use Rattle.bits.proofs.Places.{overlay-nil}
+use Rattle.calls.specs.Bounds.{lengthOutside, thresholdOutside}
+use Rattle.calls.specs.Causes.{Cause, cause, numberDue, accepted, judged}
+use Rattle.calls.proofs.Judged.{judged-due, judged-refused}
+use Rattle.tree.specs.Query.{isQuery, prefixLength}
+use Rattle.tree.specs.Search.{children}
+use Rattle.combine.specs.declared.Combined.{Combined}
+use Rattle.combine.specs.declared.Combined.the-variants.{Refused}
+use Rattle.combine.specs.Answer.{numbers, Answer, next, list, ended, further, answerBytes, kind, numberOf, lengthOf, kindOf}
+use Rattle.combine.specs.Combine.{wrongShares, allBelow, keptPrefixes, combineAnswer, combineBytes, passesLimit, combineCauses, combineOutcome, combineKind}
+use Rattle.combine.proofs.Ready.{lent}
+
+-- ---- the first cause that applies of those of what is lent
+
+not-both : (a b : Bool) → (a && b) ≡ false → (not a || not b) ≡ true
+not-both true true h = sym h
+not-both true false h = refl
+not-both false b h = refl
+
+both : (a b : Bool) → (a && b) ≡ true → (not a || not b) ≡ false
+both true true h = refl
+both true false h = sym h
+both false b h = sym h
+
+module _ (n t : ℕ) (q s0 s1 : List ℕ) where
+  pub cause-1 : lengthOutside n ≡ true → 1 ≡ numberDue (lent n t q s0 s1)
+  cause-1 h = rw h
+
+  module _ (h₁ : lengthOutside n ≡ false) where
+    pub cause-2 : thresholdOutside t ≡ true → 2 ≡ numberDue (lent n t q s0 s1)
+    cause-2 h = rw (h₁, h)
+
+    module _ (h₂ : thresholdOutside t ≡ false) where
+      pub cause-4 : wrongShares n q s0 s1 ≡ true → 4 ≡ numberDue (lent n t q s0 s1)
+      cause-4 h = rw (h₁, h₂, h)
+
+      module _ (h₄ : wrongShares n q s0 s1 ≡ false) where
+        pub cause-6 : (allBelow (numbers s0) && allBelow (numbers s1)) ≡ false → 6 ≡ numberDue (lent n t q s0 s1)
+        cause-6 h = rw (h₁, h₂, h₄, not-both (allBelow (numbers s0)) (allBelow (numbers s1)) h)
+
+        module _ (h₆ : (allBelow (numbers s0) && allBelow (numbers s1)) ≡ true) where
+          pub cause-9 : isQuery n q ≡ false → 9 ≡ numberDue (lent n t q s0 s1)
+          cause-9 h = rw (h₁, h₂, h₄, both (allBelow (numbers s0)) (allBelow (numbers s1)) h₆, h)
+
+          pub no-cause : isQuery n q ≡ true → 0 ≡ numberDue (lent n t q s0 s1)
+          no-cause h = rw (h₁, h₂, h₄, both (allBelow (numbers s0)) (allBelow (numbers s1)) h₆, h)
+
+-- ---- some causes, and then others
+
+-- one of the first applies
+number-first : (cs ds : List Cause) (k : ℕ) → k ≡ numberDue cs → (k ≡ 0 → ⊥) → numberDue (cs ++ ds) ≡ k
+number-first [] ds k h z = absurd (z h)
+number-first (c ∷ cs) ds k h z = go (c .applies) h (number-first cs ds k)
+  where
+    go : (b : Bool) → k ≡ cond b (c .number) (numberDue cs) → (k ≡ numberDue cs → (k ≡ 0 → ⊥) → numberDue (cs ++ ds) ≡ k)
+        → cond b (c .number) (numberDue (cs ++ ds)) ≡ k
+    go true e f = sym e
+    go false e f = f e z
+
+-- none of the first applies
+number-after : (cs ds : List Cause) → All (λ c. c .applies ≡ false) cs → numberDue (cs ++ ds) ≡ numberDue ds
+number-after [] ds a = refl
+number-after (c ∷ cs) ds a = rw (a .0) (number-after cs ds (a .1))
+
+judged-after : (cs ds : List Cause) (bytes : List ℕ) → All (λ c. c .applies ≡ false) cs → judged (cs ++ ds) bytes ≡ judged ds bytes
+judged-after [] ds bytes a = refl
+judged-after (c ∷ cs) ds bytes a = rw (a .0) (judged-after cs ds bytes (a .1))
+
+-- ---- what the call returns, and what it leaves in the space d
+
+module _ (n t : ℕ) (q s0 s1 : List ℕ) (d : List ℕ) where
+  abbrev pub Told : Combined → List ℕ → Type 0
+  Told r out =
+      (numberOf r ≡ combineOutcome n t q s0 s1 (length d) .number)
+      × ((kindOf r ≡ combineKind n t q s0 s1 (length d))
+      × ((lengthOf r ≡ length (combineOutcome n t q s0 s1 (length d) .written)) × (out ≡ overlay (combineOutcome n t q s0 s1 (length d) .written) d)))
+
+  told-refused : (k : ℕ) → numberDue (combineCauses n t q s0 s1 (length d)) ≡ k → (k ≡ 0 → ⊥) → Told (Refused k) d
+  unfolding combineOutcome combineKind
+  told-refused k h z =
+      let cs = combineCauses n t q s0 s1 (length d) in
+      let bytes = combineBytes n t q s0 s1 in
+      let j : judged cs bytes .number ≡ k = judged-due cs bytes ∙ h in
+      let w : judged cs bytes .written ≡ [] = judged-refused cs bytes (λ y. z (sym j ∙ y)) in (
+        sym j,
+        (
+          rw (h, ne-eqb k 0 z),
+          (sym (ap length w), sym (ap (λ (v : List ℕ). overlay v d) w ∙ overlay-nil d)),
+        ),
+      )
+
+  -- the cause of what is to be written
+  abbrev last : List Cause
+  last = cause 11 (ltb (length d) (length (combineBytes n t q s0 s1)) || passesLimit (combineAnswer n t q s0 s1)) ∷ []
+
+  -- a cause of what is lent
+  pub told-lent : (k : ℕ) → k ≡ numberDue (lent n t q s0 s1) → (k ≡ 0 → ⊥) → Told (Refused k) d
+  told-lent k h z = told-refused k (number-first (lent n t q s0 s1) last k h z) z
+
+  -- no cause of what is lent, and the answer a
+  module _ (clear : All (λ c. c .applies ≡ false) (lent n t q s0 s1)) (a : Answer) (e : combineAnswer n t q s0 s1 ≡ a) where
+    -- it does not fit, or passes the limit
+    abbrev tooLarge : Bool
+    tooLarge = ltb (length d) (length (answerBytes (prefixLength q) a)) || passesLimit a
+
+    last-number : numberDue (combineCauses n t q s0 s1 (length d)) ≡ cond tooLarge 11 0
+    last-number = number-after (lent n t q s0 s1) last clear ∙ rw e
+
+    pub told-large : tooLarge ≡ true → Told (Refused 11) d
+    told-large h = told-refused 11 (last-number ∙ rw h) (λ z. omega arith)
+
+    pub told-answer : tooLarge ≡ false → (r : Combined) (out : List ℕ) → numberOf r ≡ 0 → kindOf r ≡ some (kind a)
+        → lengthOf r ≡ length (answerBytes (prefixLength q) a) → out ≡ overlay (answerBytes (prefixLength q) a) d → Told r out
+    unfolding combineOutcome combineKind
+    told-answer h r out number what size space =
+        let o : judged (combineCauses n t q s0 s1 (length d)) (combineBytes n t q s0 s1) ≡ accepted (answerBytes (prefixLength q) a) =
+        judged-after (lent n t q s0 s1) last (combineBytes n t q s0 s1) clear ∙ rw (e, h) in
+        (rw o number, (rw (last-number, h, e) what, (rw o size, rw o space)))
+
+-- ---- the answer
+
+module _ (n t : ℕ) (q s0 s1 : List ℕ) where
+  pub answer-list : prefixLength q ≡ n → combineAnswer n t q s0 s1 ≡ list (keptPrefixes t q s0 s1)
+  answer-list e = rw (eq-eqb (prefixLength q) n e)
+
+  module _ (e : prefixLength q ≡ n → ⊥) where
+    answer-further : combineAnswer n t q s0 s1 ≡ further (keptPrefixes t q s0 s1)
+    answer-further = rw (ne-eqb (prefixLength q) n e)
+
+    pub answer-ended : length (keptPrefixes t q s0 s1) < 1 → combineAnswer n t q s0 s1 ≡ ended
+    answer-ended h = answer-further ∙ none (keptPrefixes t q s0 s1) h
+      where
+        none : (ps : List Bits) → length ps < 1 → further ps ≡ ended
+        none [] h = refl
+        none (p ∷ ps) h = absurd (omega arith)
+
+    pub answer-next : 0 < length (keptPrefixes t q s0 s1) → combineAnswer n t q s0 s1 ≡ next (children (keptPrefixes t q s0 s1))
+    answer-next h = answer-further ∙ some-kept (keptPrefixes t q s0 s1) h
+      where
+        some-kept : (ps : List Bits) → 0 < length ps → further ps ≡ next (children ps)
+        some-kept [] h = absurd (omega arith)
+        some-kept (p ∷ ps) h = refl

@@ -1,0 +1,89 @@
+-- What combining answers: document 01, 'The search'. Assumes nothing.
+use Prim.Native.Nat.{ℕ, suc, _/_}
+use mathlib.Core.Bool.{Bool, true, false, cond}
+use mathlib.Core.List.{List, [], _∷_, map}
+use mathlib.Core.Option.{Option, none, some}
+use lib.ListN.{length}
+use lib.Dec.{eqb}
+use Rattle.bits.specs.Strings.{Bits}
+use Rattle.bits.specs.Numbers.{fromLittle}
+use Rattle.group.specs.Group.{Group}
+use Rattle.tree.specs.Query.{packs, query, parts}
+use Rattle.tree.specs.Search.{children}
+use Rattle.combine.specs.declared.Combined.{Combined}
+use Rattle.combine.specs.declared.Combined.the-variants.{Next, List as Found, Ended, Refused}
+
+-- ---- totals and kept prefixes
+
+-- the numbers of a share, 8 bytes each
+abbrev pub numbers : List ℕ → List ℕ
+numbers share = map fromLittle (parts 8 (length share / 8) share)
+
+-- the totals of two shares: their numbers, added place by place in the group
+abbrev pub added : Group ℕ → List ℕ → List ℕ → List ℕ
+added G [] ys = []
+added G (x ∷ xs) [] = []
+added G (x ∷ xs) (y ∷ ys) = G .add x y ∷ added G xs ys
+
+-- the prefixes that are kept: those whose total reaches the threshold
+abbrev pub kept : (ℕ → Bool) → List Bits → List ℕ → List Bits
+kept reaches [] xs = []
+kept reaches (q ∷ qs) [] = []
+kept reaches (q ∷ qs) (x ∷ xs) = cond (reaches x) (q ∷ kept reaches qs xs) (kept reaches qs xs)
+
+-- ---- the answer
+
+-- The next query's prefixes; the heavy strings; or the search ended.
+pub data Answer : Type 0 where
+  next : List Bits → Answer
+  list : List Bits → Answer
+  ended : Answer
+
+-- before length n: ended exactly when nothing is kept, else both children of each kept prefix
+abbrev pub further : List Bits → Answer
+further [] = ended
+further (p ∷ ps) = next (children (p ∷ ps))
+
+-- the answer where the prefixes ps, of k bits each, are kept: at length n the list, empty or not
+abbrev pub answer : ℕ → ℕ → List Bits → Answer
+answer n k ps = cond (eqb k n) (list ps) (further ps)
+
+-- what is written of an answer to a query for prefixes of k bits
+abbrev pub answerBytes : ℕ → Answer → List ℕ
+answerBytes k (next qs) = query k qs
+answerBytes k (list ss) = packs ss
+answerBytes k ended = []
+
+-- ---- the values that the call returns
+
+-- The three kinds of answer.
+pub data Kind : Type 0 where
+  nextQuery : Kind
+  heavyList : Kind
+  searchEnded : Kind
+
+abbrev pub kind : Answer → Kind
+kind (next qs) = nextQuery
+kind (list ss) = heavyList
+kind ended = searchEnded
+
+-- the number of what the call returns, 0 unless it is refused
+abbrev pub numberOf : Combined → ℕ
+numberOf (Next length) = 0
+numberOf (Found length) = 0
+numberOf Ended = 0
+numberOf (Refused number) = number
+
+-- its length
+abbrev pub lengthOf : Combined → ℕ
+lengthOf (Next length) = length
+lengthOf (Found length) = length
+lengthOf Ended = 0
+lengthOf (Refused number) = 0
+
+-- its kind; a refusal has none of the three
+abbrev pub kindOf : Combined → Option Kind
+kindOf (Next length) = some nextQuery
+kindOf (Found length) = some heavyList
+kindOf Ended = some searchEnded
+kindOf (Refused number) = none

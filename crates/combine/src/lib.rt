@@ -1,0 +1,67 @@
+// Combining two servers' shares for a query: the next query, the list, or the end of the search.
+use crate::checks::first_cause;
+use crate::kept::count_kept;
+use crate::writing::write_children;
+use crate::writing::write_list;
+use bits::packing::packed_length;
+ghost use mathlib.Core.Path.{_≡_};
+ghost use lib.ListN.{length};
+ghost use Rattle.bits.specs.Places.{overlay};
+ghost use Rattle.combine.specs.Answer.{numberOf, lengthOf, kindOf};
+ghost use Rattle.combine.specs.Combine.{combineOutcome, combineKind};
+
+mod checks;
+mod kept;
+mod writing;
+
+// What combining answers: the next query or the list, with its length in bytes; the end of the search; or the number of the cause that refused it.
+pub enum Combined {
+    Next(u64),
+    List(u64),
+    Ended,
+    Refused(u64),
+}
+
+// Writes the next query, or at length n the list, for the prefixes whose total is at least t; refuses with 1, 2, 4, 6, 9 or 11.
+pub fn combine(
+    n: u64,
+    t: u64,
+    query: &[u8],
+    share0: &[u8],
+    share1: &[u8],
+    out: &mut [u8],
+) -> Combined
+    ensures number { λ r. ⌜ numberOf r ≡ combineOutcome n t (now (query .entry)) (now (share0 .entry)) (now (share1 .entry)) (length (now (out .entry))) .number ⌝ }
+    ensures kind { λ r. ⌜ kindOf r ≡ combineKind n t (now (query .entry)) (now (share0 .entry)) (now (share1 .entry)) (length (now (out .entry))) ⌝ }
+    ensures written { λ r. ⌜ lengthOf r ≡ length (combineOutcome n t (now (query .entry)) (now (share0 .entry)) (now (share1 .entry)) (length (now (out .entry))) .written) ⌝ }
+    ensures space { λ r. ⌜ now (out .exit) ≡ overlay (combineOutcome n t (now (query .entry)) (now (share0 .entry)) (now (share1 .entry)) (length (now (out .entry))) .written) (now (out .entry)) ⌝ }
+{
+    let number = first_cause(n, t, query, share0, share1);
+    if number != 0 {
+        return Combined::Refused(number);
+    }
+    let len = query::prefix_length(query);
+    let longer = len + 1;
+    let kept = count_kept(t, share0, share1);
+    if len as u64 == n {
+        let list_size = kept * packed_length(len);
+        if out.len() < list_size {
+            return Combined::Refused(11);
+        }
+        write_list(t, query, share0, share1, out);
+        return Combined::List(list_size as u64);
+    }
+    if kept < 1 {
+        return Combined::Ended;
+    }
+    if 65535 < kept {
+        return Combined::Refused(11);
+    }
+    let next_size = 6 + 2 * kept * packed_length(longer);
+    if out.len() < next_size {
+        return Combined::Refused(11);
+    }
+    query::write_heading(out, 0, len as u64, 2 * kept as u64);
+    write_children(t, query, share0, share1, out, 6);
+    Combined::Next(next_size as u64)
+}
