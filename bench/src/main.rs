@@ -1,6 +1,7 @@
 //! Speed of the proved library beside plain Rust, in one process and interleaved; every comparison checks that the outputs agree.
 
 mod plain_aes;
+mod plain_combine;
 mod plain_idpf;
 mod proved;
 mod same_aes;
@@ -84,9 +85,68 @@ fn proved_walk(n: usize, seed: Seed, key: &[u8], prefix: &[u8]) -> u64 {
     u64::from_le_bytes(out)
 }
 
-fn plain_walk(block: fn(&Seed, u64) -> Seed, n: usize, seed: Seed, key: &[u8], prefix: &[u8]) -> u64 {
+fn plain_walk(
+    block: fn(&Seed, u64) -> Seed,
+    n: usize,
+    seed: Seed,
+    key: &[u8],
+    prefix: &[u8],
+) -> u64 {
     assert!(plain_idpf::is_public_share(n, key));
     plain_idpf::share(block, n, true, seed, key, prefix, n)
+}
+
+/// A query of `count` prefixes of `length` bits that ascend by their first four bytes, and two shares whose totals are all `total`.
+fn lent_shares(length: usize, count: usize, total: u64) -> (Vec<u8>, [Vec<u8>; 2]) {
+    let mut query = Vec::new();
+    query.extend_from_slice(&(length as u16 - 1).to_be_bytes());
+    query.extend_from_slice(&(count as u32).to_be_bytes());
+    let mut shares = [Vec::new(), Vec::new()];
+    for i in 0..count {
+        let mut prefix = string(length);
+        prefix[..4].copy_from_slice(&(i as u32 * 3).to_be_bytes());
+        query.extend_from_slice(&prefix);
+        let x = i as u64 * 0x1234_5678_9abc;
+        shares[0].extend_from_slice(&x.to_le_bytes());
+        shares[1].extend_from_slice(&plain_combine::minus(total, x).to_le_bytes());
+    }
+    (query, shares)
+}
+
+fn combining(rounds: usize) {
+    let (length, count, t) = (255, 60_000, 10);
+    let (query, [share0, share1]) = lent_shares(length, count, t);
+    let need = 6 + 2 * count * (length + 1).div_ceil(8);
+    let mut proved_out = vec![0u8; need];
+    let mut plain_out = vec![0u8; need];
+    compare(
+        &format!("one prefix of combining {count} prefixes of {length} bits, all kept"),
+        1,
+        count,
+        rounds,
+        &mut [
+            Subject::new("proved", |_| {
+                let reply = proved::combine(256, t, &query, &share0, &share1, &mut proved_out);
+                assert_eq!(
+                    (reply.number, reply.kind, reply.length as usize),
+                    (0, 1, need)
+                );
+                sample(&proved_out)
+            }),
+            Subject::new("plain Rust", |_| {
+                let answer =
+                    plain_combine::combine(256, t, &query, &share0, &share1, &mut plain_out);
+                assert_eq!(answer, plain_combine::Answer::Next(need));
+                sample(&plain_out)
+            }),
+        ],
+    );
+    assert!(proved_out == plain_out);
+}
+
+/// A few bytes of a long answer, enough to keep it from being left out.
+fn sample(bytes: &[u8]) -> Vec<u8> {
+    bytes.iter().step_by(bytes.len() / 64).copied().collect()
 }
 
 fn main() {
@@ -135,7 +195,9 @@ fn main() {
             n,
             rounds,
             &mut [
-                Subject::new("proved", |c| walks(c, n, |s, key, q| proved_walk(n, s, key, q))),
+                Subject::new("proved", |c| {
+                    walks(c, n, |s, key, q| proved_walk(n, s, key, q))
+                }),
                 Subject::new("plain Rust, same AES", |c| {
                     walks(c, n, |s, key, q| plain_walk(same_block, n, s, key, q))
                 }),
@@ -145,4 +207,5 @@ fn main() {
             ],
         );
     }
+    combining(rounds);
 }

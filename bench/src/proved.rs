@@ -8,8 +8,17 @@ pub struct Reply {
     pub length: u64,
 }
 
+/// What combining returns: the number of its refusal, or 0; its kind, 0 refused, 1 next query, 2 list, 3 ended; how many bytes it wrote.
+#[repr(C)]
+#[derive(Clone, Copy, Debug, PartialEq, Eq)]
+pub struct CombineReply {
+    pub number: u64,
+    pub kind: u64,
+    pub length: u64,
+}
+
 mod raw {
-    use super::Reply;
+    use super::{CombineReply, Reply};
 
     extern "C" {
         pub fn tally_block(
@@ -47,6 +56,19 @@ mod raw {
             share: *mut u8,
             share_len: usize,
         ) -> Reply;
+
+        pub fn tally_combine(
+            n: u64,
+            t: u64,
+            query: *const u8,
+            query_len: usize,
+            share0: *const u8,
+            share0_len: usize,
+            share1: *const u8,
+            share1_len: usize,
+            out: *mut u8,
+            out_len: usize,
+        ) -> CombineReply;
     }
 }
 
@@ -104,6 +126,31 @@ pub fn share(
             public_shares.len(),
             query.as_ptr(),
             query.len(),
+            out.as_mut_ptr(),
+            out.len(),
+        )
+    }
+}
+
+/// The next query or the list of two shares for a query, written into `out`.
+pub fn combine(
+    n: u64,
+    t: u64,
+    query: &[u8],
+    share0: &[u8],
+    share1: &[u8],
+    out: &mut [u8],
+) -> CombineReply {
+    unsafe {
+        raw::tally_combine(
+            n,
+            t,
+            query.as_ptr(),
+            query.len(),
+            share0.as_ptr(),
+            share0.len(),
+            share1.as_ptr(),
+            share1.len(),
             out.as_mut_ptr(),
             out.len(),
         )
