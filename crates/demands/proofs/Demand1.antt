@@ -1,26 +1,32 @@
 -- Demand 1: each call returns the number that is due, and what it leaves of the lent spaces. Assumes nothing.
-use Prim.Native.Nat.{ℕ, _*_, _≤_, _<_}
-use mathlib.Core.Path.{_≡_, ap, _∙_}
+use Prim.Native.Nat.{ℕ, suc, _+_, _*_, _≤_, _<_}
+use mathlib.Core.Path.{_≡_, refl, ap, _∙_}
 use mathlib.Core.Bool.{Bool}
 use mathlib.Core.List.{List, _++_}
 use mathlib.Core.Logic.{_≢_}
+use mathlib.Core.Option.{none, some}
 use lib.ListN.{length, getD, drop, replicate}
+use Rattle.bits.specs.Strings.{Bits}
+use Rattle.bits.specs.Packing.{packedLength}
 use Rattle.bits.specs.Places.{overlay}
 use Rattle.bits.proofs.Places.{overlay-nil}
 use Rattle.calls.specs.Causes.{Outcome}
 use Rattle.calls.specs.Clauses.{Due}
 use Rattle.calls.proofs.Judged.{due-unique, judged-refused}
 use Rattle.point.specs.PublicShare.{publicShareLength}
-use Rattle.tree.specs.Query.{prefixCount}
+use Rattle.tree.specs.Query.{prefixLength, prefixCount}
 use Rattle.idpf.specs.Key.{keyClauses, keyOutcome}
 use Rattle.idpf.specs.Share.{shareClauses, shareCauses, shareOutcome}
 use Rattle.idpf.proofs.KeyCauses.{nothing-written}
 use Rattle.idpf.proofs.KeyTheorems.{key-due}
 use Rattle.idpf.proofs.ShareDue.{share-due}
+use Rattle.combine.specs.Answer.{next, list, ended, kind}
+use Rattle.combine.specs.Combine.{combineAnswer, combineBytes, combineClauses, combineCauses, combineOutcome, combineKind}
+use Rattle.combine.proofs.CombineDue.{combine-due}
 use Rattle.search.specs.Search.{Lent, recordBytes, listBytes, searchClauses, searchNumber, recordLength, listLength, recordAfter, listAfter}
 use Rattle.search.proofs.SearchDue.{search-due}
 use Rattle.search.proofs.Areas as areas
-use Rattle.demands.proofs.Room.{key-room, share-room}
+use Rattle.demands.proofs.Room.{key-room, share-room, no-kind, told-kind, combine-room, next-length, list-length, ended-length}
 
 -- ---- the key maker, with the space `area` for the public share
 
@@ -76,6 +82,49 @@ module _ (n e : ℕ) (b : Bool) (seeds shares query area : List ℕ) where
   share-written h =
       let r = share-room n e b seeds shares query (length area) h in
       (r .0, r .1, ap (λ (m : ℕ). answer .written ++ drop m area) (r .0))
+
+-- ---- combining two shares for a query, with the space `area` for its answer
+
+module _ (n t : ℕ) (query share0 share1 area : List ℕ) where
+  abbrev combined : Outcome
+  combined = combineOutcome n t query share0 share1 (length area)
+
+  -- Where the query is bytes, its number is due, and no other is.
+  pub combine-number : ((i : ℕ) → getD query i 0 < 256)
+      → Due (combineClauses n t query share0 share1 (length area)) (combined .number)
+      × ((k : ℕ) → Due (combineClauses n t query share0 share1 (length area)) k → k ≡ combined .number)
+  combine-number query-byte =
+      let d = combine-due n t query share0 share1 (length area) query-byte in
+      (d, λ k h. due-unique (combineClauses n t query share0 share1 (length area)) h d)
+
+  -- A refusal leaves the space as it was and names none of the three kinds of answer.
+  pub combine-refused : combined .number ≢ 0 → (overlay (combined .written) area ≡ area) × (combineKind n t query share0 share1 (length area) ≡ none)
+  unfolding combineOutcome
+  combine-refused h = (
+    ap (λ (bytes : List ℕ). overlay bytes area) (judged-refused (combineCauses n t query share0 share1 (length area)) _ h) ∙ overlay-nil area,
+    no-kind n t query share0 share1 (length area) h,
+  )
+
+  -- Where it succeeds, it names the kind of its answer, what it writes are that answer's bytes and fits, and the bytes past it are as they were.
+  pub combine-written : combined .number ≡ 0
+      → (combineKind n t query share0 share1 (length area) ≡ some (kind (combineAnswer n t query share0 share1)))
+      × (combined .written ≡ combineBytes n t query share0 share1) × (length (combined .written) ≤ length area)
+      × (overlay (combined .written) area ≡ combined .written ++ drop (length (combined .written)) area)
+  unfolding overlay
+  combine-written h =
+      let r = combine-room n t query share0 share1 (length area) h in
+      (told-kind n t query share0 share1 (length area) h, r .0, rw (r .0) (r .1), refl)
+
+  -- Where the query is bytes, a next query has 6 bytes and its prefixes one bit longer, a list its strings of n bits, each packed, and 'ended' nothing.
+  pub combine-length : ((i : ℕ) → getD query i 0 < 256) → combined .number ≡ 0
+      → ((qs : List Bits) → combineAnswer n t query share0 share1 ≡ next qs → length (combined .written) ≡ 6 + length qs * packedLength (suc (prefixLength query)))
+      × ((ss : List Bits) → combineAnswer n t query share0 share1 ≡ list ss → length (combined .written) ≡ length ss * packedLength n)
+      × (combineAnswer n t query share0 share1 ≡ ended → length (combined .written) ≡ 0)
+  combine-length query-byte h = (
+    next-length n t query share0 share1 (length area) h query-byte,
+    list-length n t query share0 share1 (length area) h query-byte,
+    ended-length n t query share0 share1 (length area) h query-byte,
+  )
 
 -- ---- the whole search
 

@@ -1,4 +1,4 @@
--- Demand 2: keys and shares, and what the list of an accepted search holds. Assumes nothing.
+-- Demand 2: keys and shares, what combining writes, and what the list of an accepted search holds. Assumes nothing.
 use mathlib.Core.Path.{_≡_, refl, sym, ap, ap₂, _∙_}
 use mathlib.Core.Logic.{_↔_}
 use mathlib.Core.Bool.{Bool, true, false, cond}
@@ -22,7 +22,7 @@ use Rattle.point.specs.PublicShare.{joined, publicShare, publicShareLength}
 use Rattle.point.specs.Totals.{reportCorrection, reportShare, reportPublicShare}
 use Rattle.point.specs.Instance.{scheme}
 use Rattle.point.proofs.Instance.{scheme-correct}
-use Rattle.tree.specs.Query.{OfLength, packs, IsQuery, prefixCount, prefixesOf}
+use Rattle.tree.specs.Query.{OfLength, packs, query as queryOf, IsQuery, prefixLength, prefixCount, prefixesOf}
 use Rattle.tree.specs.Search.{children, totals, searchList, Ended}
 use Rattle.tree.specs.Cut.{Heavy, honestList}
 use Rattle.tree.specs.Space.{recordSpace, listSpace}
@@ -34,6 +34,9 @@ use Rattle.tree.proofs.Demands.{honest-exact, honest-ascending}
 use Rattle.idpf.specs.Key.{keyOutcome}
 use Rattle.idpf.specs.Reports.{seedAt, lentShare, serverSum}
 use Rattle.idpf.specs.Share.{shareOutcome}
+use Rattle.combine.specs.Answer.{next}
+use Rattle.combine.specs.Combine.{combineAnswer, combineOutcome}
+use Rattle.combine.proofs.NextPasses as passing
 use Rattle.search.specs.Search.{Lent, total, listBytes, listLength}
 use Rattle.search.proofs.Outcome.{accepted-clear, named-expander}
 use Rattle.demands.specs.Honest.{Accepted, listRead, Honest}
@@ -94,6 +97,16 @@ shares-add s xs honest from to few e named query asks room0 room1 fits0 fits1 =
           (reports-seeds1 s xs honest) (reports-shares1 s xs honest e named from to) query passes room1 fits1,
       all-map (λ q. (0 < length q) × (length q ≤ s .n)) _ (λ q h. sums-add s xs honest e named from to few q (h .0) (h .1)) (prefixesOf query) (query-prefixes (s .n) query passes),
     )
+
+-- ---- combining
+
+-- Where combining answers a query of bytes with a next query and succeeds, what it writes is the query for those prefixes, and passes 9.
+pub next-passes : (n t : ℕ) (query share0 share1 : List ℕ) (room : ℕ) → ((i : ℕ) → getD query i 0 < 256) → (qs : List Bits)
+    → combineAnswer n t query share0 share1 ≡ next qs → combineOutcome n t query share0 share1 room .number ≡ 0
+    → (combineOutcome n t query share0 share1 room .written ≡ queryOf (prefixLength query) qs)
+    × IsQuery n (combineOutcome n t query share0 share1 room .written)
+next-passes n t query share0 share1 room byte qs told ok =
+    (passing.next-written n t query share0 share1 room byte qs told ok, passing.next-passes n t query share0 share1 room byte qs told ok)
 
 -- ---- honest searches
 

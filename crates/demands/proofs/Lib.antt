@@ -9,6 +9,10 @@ pub mod Counted
 pub mod Accepting
 pub mod Making
 pub mod Room
+pub mod SoundShares
+pub mod Round
+pub mod Playing
+pub mod Loop
 pub mod Demand1
 pub mod Demand2
 pub mod Demand3

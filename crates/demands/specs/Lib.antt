@@ -1,2 +1,3 @@
 pub mod Honest
 pub mod Sheet
+pub mod Loop
