@@ -3,6 +3,7 @@
 mod plain_aes;
 mod plain_combine;
 mod plain_idpf;
+mod plain_search;
 mod proved;
 mod same_aes;
 mod tables;
@@ -149,6 +150,110 @@ fn sample(bytes: &[u8]) -> Vec<u8> {
     bytes.iter().step_by(bytes.len() / 64).copied().collect()
 }
 
+/// An honest collection: the reports lent to each server for strings of n bits, ten of which are held by one installation in fifty each.
+struct Collection {
+    n: usize,
+    seeds: [Vec<u8>; 2],
+    public_shares: Vec<u8>,
+}
+
+impl Collection {
+    fn new(n: usize, count: usize) -> Collection {
+        let mut state = 0x9e37_79b9_7f4a_7c15u64;
+        let mut random = move || {
+            state ^= state << 13;
+            state ^= state >> 7;
+            state ^= state << 17;
+            state
+        };
+        let mut string = |common: Option<usize>| {
+            let mut packed: Vec<u8> = (0..n.div_ceil(8)).map(|_| random() as u8).collect();
+            if let Some(i) = common {
+                packed.iter_mut().for_each(|byte| *byte = 23 * i as u8);
+            }
+            packed[n / 8..].iter_mut().for_each(|byte| *byte &= !(255 >> (n % 8)));
+            packed
+        };
+        let mut made = Collection {
+            n,
+            seeds: [Vec::new(), Vec::new()],
+            public_shares: Vec::new(),
+        };
+        let mut key = vec![0u8; plain_idpf::public_share_length(n)];
+        for i in 0..count {
+            let string = string((i % 50 < 10).then_some(i % 50));
+            let seeds = [0u8, 1].map(|server| {
+                let mut seed = [server; 16];
+                seed[..8].copy_from_slice(&(i as u64).to_le_bytes());
+                seed
+            });
+            plain_idpf::make_key(same_block, n, &string, seeds, &mut key);
+            for (all, seed) in made.seeds.iter_mut().zip(seeds) {
+                all.extend_from_slice(&seed);
+            }
+            made.public_shares.extend_from_slice(&key);
+        }
+        made
+    }
+
+    fn lent(&self) -> [plain_search::Lent; 2] {
+        [0, 1].map(|server| plain_search::Lent {
+            seeds: &self.seeds[server],
+            public_shares: &self.public_shares,
+        })
+    }
+
+    /// The proved search's record and list.
+    fn proved(&self, t: u64) -> (Vec<u8>, Vec<u8>) {
+        let (mut record, mut list) = (vec![0u8; 1 << 20], vec![0u8; 1 << 16]);
+        let [zero, one] = self.lent();
+        let found = proved::search(self.n as u64, t, 1, zero, one, &mut record, &mut list);
+        assert_eq!(found.number, 0);
+        record.truncate(found.record_length as usize);
+        list.truncate(found.list_length as usize);
+        (record, list)
+    }
+
+    /// The plain search's record and list.
+    fn plain(&self, block: fn(&Seed, u64) -> Seed, t: u64) -> (Vec<u8>, Vec<u8>) {
+        let (mut record, mut list) = (vec![0u8; 1 << 20], vec![0u8; 1 << 16]);
+        let lengths =
+            plain_search::search(block, self.n, t, self.lent(), &mut record, &mut list);
+        let (record_length, list_length) = lengths.expect("accepted");
+        record.truncate(record_length);
+        list.truncate(list_length);
+        (record, list)
+    }
+}
+
+/// A whole search beside plain Rust, and how its time grows as n and the number of reports double.
+fn searching(check: bool) {
+    let (n, count, t) = if check { (16, 100, 2) } else { (32, 1_000, 10) };
+    let collection = Collection::new(n, count);
+    compare(
+        &format!("a whole search of {count} reports, n = {n}, t = {t}"),
+        1,
+        1,
+        if check { 1 } else { 2 },
+        &mut [
+            Subject::new("proved", |_| collection.proved(t)),
+            Subject::new("plain Rust, same AES", |_| collection.plain(same_block, t)),
+            Subject::new("plain Rust, plain AES", |_| collection.plain(plain_block, t)),
+        ],
+    );
+    if check {
+        return;
+    }
+    println!("how the proved search grows, t = {t}");
+    for (n, count) in [(16, 500), (32, 500), (16, 1_000), (32, 1_000)] {
+        let collection = Collection::new(n, count);
+        let start = std::time::Instant::now();
+        let (record, _) = collection.proved(t);
+        let ms = start.elapsed().as_millis();
+        println!("  n = {n:>3}, {count:>5} reports: {ms:>7} ms, a record of {} bytes", record.len());
+    }
+}
+
 fn main() {
     let check = std::env::args().any(|a| a == "--check");
     let rounds = if check { 2 } else { 40 };
@@ -208,4 +313,5 @@ fn main() {
         );
     }
     combining(rounds);
+    searching(check);
 }

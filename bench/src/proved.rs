@@ -1,5 +1,7 @@
 //! The proved library's exported functions, as Rust sees them.
 
+use crate::plain_search::Lent;
+
 /// What a call returns: the number of its refusal, or 0, and how many bytes it wrote.
 #[repr(C)]
 #[derive(Clone, Copy, Debug, PartialEq, Eq)]
@@ -17,8 +19,17 @@ pub struct CombineReply {
     pub length: u64,
 }
 
+/// What a whole search returns: the number of its refusal, or 0, and how many bytes of the record and of the list it wrote.
+#[repr(C)]
+#[derive(Clone, Copy, Debug, PartialEq, Eq)]
+pub struct Found {
+    pub number: u64,
+    pub record_length: u64,
+    pub list_length: u64,
+}
+
 mod raw {
-    use super::{CombineReply, Reply};
+    use super::{CombineReply, Found, Reply};
 
     extern "C" {
         pub fn tally_block(
@@ -69,6 +80,24 @@ mod raw {
             out: *mut u8,
             out_len: usize,
         ) -> CombineReply;
+
+        pub fn tally_search(
+            n: u64,
+            t: u64,
+            expander: u64,
+            seeds0: *const u8,
+            seeds0_len: usize,
+            public_shares0: *const u8,
+            public_shares0_len: usize,
+            seeds1: *const u8,
+            seeds1_len: usize,
+            public_shares1: *const u8,
+            public_shares1_len: usize,
+            record: *mut u8,
+            record_len: usize,
+            list: *mut u8,
+            list_len: usize,
+        ) -> Found;
     }
 }
 
@@ -153,6 +182,37 @@ pub fn combine(
             share1.len(),
             out.as_mut_ptr(),
             out.len(),
+        )
+    }
+}
+
+/// The record and the list of a whole search, written into their areas.
+pub fn search(
+    n: u64,
+    t: u64,
+    expander: u64,
+    zero: Lent,
+    one: Lent,
+    record: &mut [u8],
+    list: &mut [u8],
+) -> Found {
+    unsafe {
+        raw::tally_search(
+            n,
+            t,
+            expander,
+            zero.seeds.as_ptr(),
+            zero.seeds.len(),
+            zero.public_shares.as_ptr(),
+            zero.public_shares.len(),
+            one.seeds.as_ptr(),
+            one.seeds.len(),
+            one.public_shares.as_ptr(),
+            one.public_shares.len(),
+            record.as_mut_ptr(),
+            record.len(),
+            list.as_mut_ptr(),
+            list.len(),
         )
     }
 }

@@ -2,6 +2,7 @@
 use calls::Reply;
 use combine::Combined;
 use expander::Choice;
+use search::Found;
 ghost use mathlib.Core.Path.{_≡_};
 ghost use lib.ListN.{length};
 ghost use Rattle.bits.specs.Places.{overlay};
@@ -10,6 +11,7 @@ ghost use Rattle.capi.specs.Combined.{kindNumber};
 ghost use Rattle.combine.specs.Combine.{combineOutcome, combineKind};
 ghost use Rattle.idpf.specs.Key.{keyOutcome};
 ghost use Rattle.idpf.specs.Share.{shareOutcome};
+ghost use Rattle.search.specs.Search.{lent, searchNumber, recordLength, listLength, recordAfter, listAfter};
 
 // Writes block j of a seed of 16 bytes; refuses with 3, 4 or 11.
 #[no_mangle]
@@ -128,4 +130,36 @@ pub extern "C" fn tally_combine(
             length: 0,
         },
     }
+}
+
+// Writes the record and the list of a whole search; refuses with 1 to 8 or 11, and with 11 makes every byte of the record area zero.
+#[no_mangle]
+pub extern "C" fn tally_search(
+    n: u64,
+    t: u64,
+    expander: u64,
+    seeds0: &[u8],
+    public_shares0: &[u8],
+    seeds1: &[u8],
+    public_shares1: &[u8],
+    record: &mut [u8],
+    list: &mut [u8],
+) -> Found
+    ensures number { λ r. ⌜ r .number ≡ searchNumber (lent n t expander (now (seeds0 .entry)) (now («public_shares0» .entry)) (now (seeds1 .entry)) (now («public_shares1» .entry)) (now («record» .entry)) (now (list .entry))) ⌝ }
+    ensures record_written { λ r. ⌜ r .«record_length» ≡ recordLength (lent n t expander (now (seeds0 .entry)) (now («public_shares0» .entry)) (now (seeds1 .entry)) (now («public_shares1» .entry)) (now («record» .entry)) (now (list .entry))) ⌝ }
+    ensures list_written { λ r. ⌜ r .«list_length» ≡ listLength (lent n t expander (now (seeds0 .entry)) (now («public_shares0» .entry)) (now (seeds1 .entry)) (now («public_shares1» .entry)) (now («record» .entry)) (now (list .entry))) ⌝ }
+    ensures record_area { λ _. ⌜ now («record» .exit) ≡ recordAfter (lent n t expander (now (seeds0 .entry)) (now («public_shares0» .entry)) (now (seeds1 .entry)) (now («public_shares1» .entry)) (now («record» .entry)) (now (list .entry))) ⌝ }
+    ensures list_area { λ _. ⌜ now (list .exit) ≡ listAfter (lent n t expander (now (seeds0 .entry)) (now («public_shares0» .entry)) (now (seeds1 .entry)) (now («public_shares1» .entry)) (now («record» .entry)) (now (list .entry))) ⌝ }
+{
+    search::search(
+        n,
+        t,
+        expander,
+        seeds0,
+        public_shares0,
+        seeds1,
+        public_shares1,
+        record,
+        list,
+    )
 }

@@ -4,21 +4,23 @@ use native.Mathlib.Omega.{arith}
 use mathlib.Core.Path.{_≡_, refl, ap, _∙_}
 use mathlib.Core.Bool.{Bool, true, false, cond}
 use mathlib.Core.List.{List, [], _∷_}
-use borrow.Author.Tests.{eqb-false, ltb-false}
+use mathlib.Core.Option.{none, some}
+use borrow.Author.Tests.{eqb-true, eqb-false, ltb-false}
 use lib.ListN.{length, getD}
 use lib.Dec.{leb, ltb, eqb}
 use Rattle.bits.specs.Lists.{All}
 use Rattle.bits.specs.Strings.{Bits, Before, Ascending}
+use Rattle.calls.specs.Causes.{numberDue}
 use Rattle.calls.proofs.Decisions.{neither}
-use Rattle.calls.proofs.Judged.{judged-clear, judged-accepted}
+use Rattle.calls.proofs.Judged.{judged-clear, judged-accepted, judged-due}
 use Rattle.group.specs.Modular.{field}
 use Rattle.tree.specs.Query.{query, limit, IsQuery, prefixLength, prefixesOf}
 use Rattle.tree.specs.Search.{children}
 use Rattle.tree.proofs.Asked.{next-query}
 use Rattle.tree.proofs.Queries.{ascending-test}
 use Rattle.query.proofs.Ready.{ready as query-ready}
-use Rattle.combine.specs.Answer.{numbers, added, kept, next, list, further, answer, answerBytes}
-use Rattle.combine.specs.Combine.{keptPrefixes, combineAnswer, combineBytes, passesLimit, combineCauses, combineOutcome}
+use Rattle.combine.specs.Answer.{numbers, added, kept, Answer, next, list, ended, further, answer, answerBytes, nextQuery, kind}
+use Rattle.combine.specs.Combine.{keptPrefixes, combineAnswer, combineBytes, passesLimit, combineCauses, combineOutcome, combineKind}
 use Rattle.combine.proofs.Ready.{Ready, clear-ready, all-kept, kept-long}
 
 -- kept prefixes of ascending ones are ascending
@@ -80,3 +82,23 @@ module _ (n t : ℕ) (q s0 s1 : List ℕ) (room : ℕ) (byte : (i : ℕ) → get
       let a = kept-ascending (leb t) (prefixesOf q) (added field (numbers s0) (numbers s1)) (ascending-test (prefixesOf q) .0 (r .ascending)) in
       rw (next-written, g .both)
       (next-query n (prefixLength q) ks k (omega (arith, all-well .not-longer)) (g .some) f (kept-long n t q s0 s1 byte all-well) a)
+
+-- Where the kind of answer is a next query, the call succeeds, and its answer holds both children of each kept prefix.
+pub next-told : (n t : ℕ) (q s0 s1 : List ℕ) (room : ℕ) → combineKind n t q s0 s1 room ≡ some nextQuery
+    → (combineOutcome n t q s0 s1 room .number ≡ 0) × (combineAnswer n t q s0 s1 ≡ next (children (keptPrefixes t q s0 s1)))
+unfolding combineKind combineOutcome
+next-told n t q s0 s1 room h =
+    go (eqb due 0) refl (combineAnswer n t q s0 s1) refl h
+  where
+    due : ℕ
+    due = numberDue (combineCauses n t q s0 s1 room)
+
+    go : (b : Bool) → eqb due 0 ≡ b → (a : Answer) → combineAnswer n t q s0 s1 ≡ a → cond b (some (kind a)) none ≡ some nextQuery
+        → (combineOutcome n t q s0 s1 room .number ≡ 0) × (combineAnswer n t q s0 s1 ≡ next (children (keptPrefixes t q s0 s1)))
+    go true z (next qs) e h = (
+      judged-due (combineCauses n t q s0 s1 room) _ ∙ eqb-true due 0 z,
+      e ∙ ap next (goes-on n (prefixLength q) (keptPrefixes t q s0 s1) qs e .both),
+    )
+    go true z (list ss) e h = let z : _≡_ {A = ℕ} 0 1 = cc in absurd (omega arith)
+    go true z ended e h = let z : _≡_ {A = ℕ} 0 1 = cc in absurd (omega arith)
+    go false z a e h = let z : _≡_ {A = ℕ} 0 1 = cc in absurd (omega arith)

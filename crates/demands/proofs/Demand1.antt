@@ -1,11 +1,11 @@
 -- Demand 1: each call returns the number that is due, and what it leaves of the lent spaces. Assumes nothing.
-use Prim.Native.Nat.{ℕ, suc, _+_, _*_, _≤_, _<_}
+use Prim.Native.Nat.{ℕ, suc, _+_, _*_, _≤_}
 use mathlib.Core.Path.{_≡_, refl, ap, _∙_}
 use mathlib.Core.Bool.{Bool}
-use mathlib.Core.List.{List, _++_}
+use mathlib.Core.List.{List, [], _++_}
 use mathlib.Core.Logic.{_≢_}
 use mathlib.Core.Option.{none, some}
-use lib.ListN.{length, getD, drop, replicate}
+use lib.ListN.{length, drop, replicate}
 use Rattle.bits.specs.Strings.{Bits}
 use Rattle.bits.specs.Packing.{packedLength}
 use Rattle.bits.specs.Places.{overlay}
@@ -26,7 +26,12 @@ use Rattle.combine.proofs.CombineDue.{combine-due}
 use Rattle.search.specs.Search.{Lent, recordBytes, listBytes, searchClauses, searchNumber, recordLength, listLength, recordAfter, listAfter}
 use Rattle.search.proofs.SearchDue.{search-due}
 use Rattle.search.proofs.Areas as areas
+use Rattle.demands.specs.Honest.{AreBytes}
 use Rattle.demands.proofs.Room.{key-room, share-room, no-kind, told-kind, combine-room, next-length, list-length, ended-length}
+
+-- where nothing is written, a space is as it was
+unchanged : {bytes area : List ℕ} → bytes ≡ [] → overlay bytes area ≡ area
+unchanged {area = area} h = ap (λ (bytes : List ℕ). overlay bytes area) h ∙ overlay-nil area
 
 -- ---- the key maker, with the space `area` for the public share
 
@@ -41,12 +46,12 @@ module _ (n e : ℕ) (string seed0 seed1 area : List ℕ) where
       let d = key-due n e string seed0 seed1 (length area) in
       (d, λ k h. due-unique (keyClauses n e string seed0 seed1 (length area)) h d)
 
-  -- A refusal leaves the space as it was.
-  pub key-refused : key .number ≢ 0 → overlay (key .written) area ≡ area
-  key-refused h = ap (λ (bytes : List ℕ). overlay bytes area) (nothing-written n e string seed0 seed1 (length area) h) ∙ overlay-nil area
+  -- A refusal writes nothing, so that its length is 0, and leaves the space as it was.
+  pub key-refused : key .number ≢ 0 → (key .written ≡ []) × (overlay (key .written) area ≡ area)
+  key-refused h = let none-written = nothing-written n e string seed0 seed1 (length area) h in (none-written, unchanged none-written)
 
   -- Where it succeeds with seeds of bytes, what it writes has the length of a public share and fits, and the bytes past it are as they were.
-  pub key-written : ((i : ℕ) → getD seed0 i 0 < 256) → ((i : ℕ) → getD seed1 i 0 < 256) → key .number ≡ 0
+  pub key-written : AreBytes seed0 → AreBytes seed1 → key .number ≡ 0
       → (length (key .written) ≡ publicShareLength n) × (publicShareLength n ≤ length area)
       × (overlay (key .written) area ≡ key .written ++ drop (publicShareLength n) area)
   unfolding overlay
@@ -61,18 +66,17 @@ module _ (n e : ℕ) (b : Bool) (seeds shares query area : List ℕ) where
   answer = shareOutcome n e b seeds shares query (length area)
 
   -- Where the public shares and the query are bytes, its number is due, and no other is.
-  pub share-number : ((i : ℕ) → getD shares i 0 < 256) → ((i : ℕ) → getD query i 0 < 256)
+  pub share-number : AreBytes shares → AreBytes query
       → Due (shareClauses n e seeds shares query (length area)) (answer .number)
       × ((k : ℕ) → Due (shareClauses n e seeds shares query (length area)) k → k ≡ answer .number)
   share-number share-byte query-byte =
       let d = share-due n e b seeds shares query (length area) share-byte query-byte in
       (d, λ k h. due-unique (shareClauses n e seeds shares query (length area)) h d)
 
-  -- A refusal leaves the space as it was.
-  pub share-refused : answer .number ≢ 0 → overlay (answer .written) area ≡ area
+  -- A refusal writes nothing, so that its length is 0, and leaves the space as it was.
+  pub share-refused : answer .number ≢ 0 → (answer .written ≡ []) × (overlay (answer .written) area ≡ area)
   unfolding shareOutcome
-  share-refused h =
-      ap (λ (bytes : List ℕ). overlay bytes area) (judged-refused (shareCauses n e seeds shares query (length area)) _ h) ∙ overlay-nil area
+  share-refused h = let none-written = judged-refused (shareCauses n e seeds shares query (length area)) _ h in (none-written, unchanged none-written)
 
   -- Where it succeeds, what it writes is 8 bytes for each prefix of the query and fits, and the bytes past it are as they were.
   pub share-written : answer .number ≡ 0
@@ -90,20 +94,20 @@ module _ (n t : ℕ) (query share0 share1 area : List ℕ) where
   combined = combineOutcome n t query share0 share1 (length area)
 
   -- Where the query is bytes, its number is due, and no other is.
-  pub combine-number : ((i : ℕ) → getD query i 0 < 256)
+  pub combine-number : AreBytes query
       → Due (combineClauses n t query share0 share1 (length area)) (combined .number)
       × ((k : ℕ) → Due (combineClauses n t query share0 share1 (length area)) k → k ≡ combined .number)
   combine-number query-byte =
       let d = combine-due n t query share0 share1 (length area) query-byte in
       (d, λ k h. due-unique (combineClauses n t query share0 share1 (length area)) h d)
 
-  -- A refusal leaves the space as it was and names none of the three kinds of answer.
-  pub combine-refused : combined .number ≢ 0 → (overlay (combined .written) area ≡ area) × (combineKind n t query share0 share1 (length area) ≡ none)
+  -- A refusal writes nothing, so that its length is 0, leaves the space as it was and names none of the three kinds of answer.
+  pub combine-refused : combined .number ≢ 0
+      → (combined .written ≡ []) × (overlay (combined .written) area ≡ area) × (combineKind n t query share0 share1 (length area) ≡ none)
   unfolding combineOutcome
-  combine-refused h = (
-    ap (λ (bytes : List ℕ). overlay bytes area) (judged-refused (combineCauses n t query share0 share1 (length area)) _ h) ∙ overlay-nil area,
-    no-kind n t query share0 share1 (length area) h,
-  )
+  combine-refused h =
+      let none-written = judged-refused (combineCauses n t query share0 share1 (length area)) _ h in
+      (none-written, unchanged none-written, no-kind n t query share0 share1 (length area) h)
 
   -- Where it succeeds, it names the kind of its answer, what it writes are that answer's bytes and fits, and the bytes past it are as they were.
   pub combine-written : combined .number ≡ 0
@@ -116,7 +120,7 @@ module _ (n t : ℕ) (query share0 share1 area : List ℕ) where
       (told-kind n t query share0 share1 (length area) h, r .0, rw (r .0) (r .1), refl)
 
   -- Where the query is bytes, a next query has 6 bytes and its prefixes one bit longer, a list its strings of n bits, each packed, and 'ended' nothing.
-  pub combine-length : ((i : ℕ) → getD query i 0 < 256) → combined .number ≡ 0
+  pub combine-length : AreBytes query → combined .number ≡ 0
       → ((qs : List Bits) → combineAnswer n t query share0 share1 ≡ next qs → length (combined .written) ≡ 6 + length qs * packedLength (suc (prefixLength query)))
       × ((ss : List Bits) → combineAnswer n t query share0 share1 ≡ list ss → length (combined .written) ≡ length ss * packedLength n)
       × (combineAnswer n t query share0 share1 ≡ ended → length (combined .written) ≡ 0)
@@ -130,7 +134,7 @@ module _ (n t : ℕ) (query share0 share1 area : List ℕ) where
 
 module _ (s : Lent) where
   -- Where the public shares are bytes, its number is due, and no other is.
-  pub search-number : ((i : ℕ) → getD (s .shares0) i 0 < 256) → ((i : ℕ) → getD (s .shares1) i 0 < 256)
+  pub search-number : AreBytes (s .shares0) → AreBytes (s .shares1)
       → Due (searchClauses s) (searchNumber s) × ((k : ℕ) → Due (searchClauses s) k → k ≡ searchNumber s)
   search-number byte0 byte1 = let d = search-due s byte0 byte1 in (d, λ k h. due-unique (searchClauses s) h d)
 

@@ -5,23 +5,23 @@ use mathlib.Core.List.{List, [], _∷_, _++_, map}
 use mathlib.Core.Logic.{_≢_, _⊎_, inl, inr}
 use Prim.Native.Nat.{ℕ, zero, suc, _≤_, _<_}
 use native.Mathlib.Omega.{arith}
-use borrow.Author.Tests.{leb-true, eqb-false}
+use borrow.Author.Tests.{eqb-false}
 use lib.ListN.{length}
 use lib.Dec.{T, eqb, leb, ltb, ltb→lt, lt→ltb}
-use Rattle.bits.specs.Lists.{select}
 use Rattle.bits.specs.Strings.{Bits, Ascending}
 use Rattle.calls.specs.Causes.{accepted}
 use Rattle.calls.specs.Clauses.{clause, Due}
 use Rattle.calls.proofs.Decisions.{either, either-test}
 use Rattle.calls.proofs.Judged.{number-due, judged-due, none, next as also}
 use Rattle.tree.specs.Query.{OfLength, limit, IsQuery}
-use Rattle.tree.specs.Search.{start, children, keptFrom, fitsFrom, isKept, heading, searchRecord, searchList, searchFits}
+use Rattle.tree.specs.Search.{start, children, fitsFrom, isKept, heading, searchRecord, searchList, searchFits}
 use Rattle.tree.proofs.Kept.{list-length, list-ascending}
-use Rattle.tree.proofs.Lists.{and-left, and-right}
+use Rattle.tree.proofs.Steps.{kept-last}
 use Rattle.combine.specs.Answer.{Answer, next, list, ended, further, answer}
 use Rattle.combine.specs.Combine.{PassesLimit, passesLimit, combineCauses, combineOutcome}
 use Rattle.search.specs.Search.{Lent, reports, total, recordBytes, listBytes, queriesFit}
 use Rattle.search.proofs.Outcome.{Sound, accepted-clear, not-before-11}
+use Rattle.search.proofs.Rule.{queries-within}
 use Rattle.demands.specs.Honest.{Accepted, recordRead, listRead}
 use Rattle.demands.specs.Loop.{Passes, firstQuery, Played, shareOf, shareFor, totalsFor, answerFor, spaceFor, combineIn, played, keptAt, queryAt}
 use Rattle.demands.proofs.Reading.{record-read, list-read}
@@ -32,17 +32,6 @@ use Rattle.demands.proofs.Playing.{ruled, play}
 passing : (s : Lent) → Passes s → Sound s
 passing s (inl h) = accepted-clear s h .sound
 passing s (inr h) = not-before-11 s h
-
--- one level more is one step more at the end
-kept-last : (keeps : Bits → Bool) (k : ℕ) (ps : List Bits) → keptFrom keeps (suc k) ps ≡ select keeps (children (keptFrom keeps k ps))
-kept-last keeps zero ps = refl
-kept-last keeps (suc k) ps = kept-last keeps k (select keeps (children ps))
-
--- every query is within the limit
-fits-at : (keeps : Bits → Bool) (n k : ℕ) (ps : List Bits) → k < n → fitsFrom keeps n ps ≡ true → length (children (keptFrom keeps k ps)) ≤ limit
-fits-at keeps zero k ps h e = absurd (omega arith)
-fits-at keeps (suc n) zero ps h e = leb-true _ limit (and-left (leb (length (children ps)) limit) _ e)
-fits-at keeps (suc n) (suc k) ps h e = fits-at keeps n k (select keeps (children ps)) (omega arith) (and-right (leb (length (children ps)) limit) _ e)
 
 -- the test of the limit and its clause
 limit-passed : (a : Answer) → T (passesLimit a) → PassesLimit a
@@ -115,8 +104,7 @@ module _ (s : Lent) (passes : Passes s) where
 
   module _ (within : queriesFit s ≡ true) where
     level-few : (k : ℕ) → k < s .n → length (children (keptAt s k)) ≤ limit
-    unfolding queriesFit searchFits searchList
-    level-few k h = fits-at (isKept (leb (s .t)) (total s)) (s .n) k start h within
+    level-few = queries-within s within
 
     -- At every level at which some prefixes are kept, both servers and combining succeed.
     pub calls-succeed : (k : ℕ) → k < s .n → 1 ≤ length (keptAt s k)
@@ -162,3 +150,7 @@ pub accepted-played : (s : Lent) → Accepted s
 accepted-played s ok =
     let e = search-played s (inl ok) (accepted-clear s ok .queries-fit) in
     (record-read s ok ∙ e .0, list-read s ok ∙ e .1)
+
+-- Whatever reports were lent, every query of an accepted search is as laid out and within its limits.
+pub accepted-asks : (s : Lent) → Accepted s → (k : ℕ) → k < s .n → 1 ≤ length (keptAt s k) → IsQuery (s .n) (queryAt s k)
+accepted-asks s ok k short some = level-query s (inl ok) k short some (queries-within s (accepted-clear s ok .queries-fit) k short)

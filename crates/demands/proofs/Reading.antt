@@ -1,10 +1,17 @@
--- What is read of an accepted search is what it writes. Assumes nothing.
-use mathlib.Core.Path.{_≡_, sym, ap, _∙_}
-use Prim.Native.Nat.{_≤_}
+-- What is read of an accepted search is what it writes, and its record level by level. Assumes nothing.
+use mathlib.Core.Path.{_≡_, refl, sym, ap, ap₂, _∙_}
+use mathlib.Core.Bool.{Bool}
+use mathlib.Core.List.{List, _++_}
+use Prim.Native.Nat.{ℕ, zero, suc, _≤_}
+use native.Mathlib.Nat.{zero-add}
 use native.Mathlib.Omega.{arith}
 use lib.ListN.{length}
 use lib.Seq.{take-append-seam}
 use Rattle.bits.specs.Places.{overlay}
+use Rattle.bits.specs.Strings.{Bits}
+use Rattle.point.specs.PublicShare.{joined}
+use Rattle.tree.specs.Search.{start, children, level, keptFrom, recordFrom, isKept, searchList}
+use Rattle.tree.proofs.Steps.{record-last}
 use Rattle.search.specs.Search.{Lent, recordBytes, listBytes, recordLength, listLength, recordAfter, listAfter}
 use Rattle.search.proofs.Outcome.{accepted-clear}
 use Rattle.demands.specs.Honest.{Accepted, recordRead, listRead}
@@ -32,3 +39,12 @@ module _ (s : Lent) (ok : Accepted s) where
 
   pub list-whole : (length (listRead s) ≡ listLength s) × (listLength s ≤ length (s .listArea))
   list-whole = (ap length list-read ∙ sym list-returned, omega (arith, list-returned, accepted-clear s ok .list-fits))
+
+-- What n levels add to a record are the levels, one after the other.
+pub levels-joined : (reaches : ℕ → Bool) (T : Bits → ℕ) (n : ℕ)
+    → recordFrom (isKept reaches T) T n 0 start ≡ joined n (λ k. level T k (children (searchList reaches T k)))
+unfolding joined searchList
+levels-joined reaches T zero = refl
+levels-joined reaches T (suc n) =
+    record-last (isKept reaches T) T n 0 start
+    ∙ ap₂ (λ (r : List ℕ) (k : ℕ). r ++ level T k (children (keptFrom (isKept reaches T) n start))) (levels-joined reaches T n) (zero-add n)

@@ -1,8 +1,9 @@
--- The reports of an honest search as the theory has them, and that what is lent is what they are lent. Assumes nothing.
+-- The reports of an honest search as the theory has them, that what is lent is what they are lent, and each server's sum. Assumes nothing.
 use mathlib.Core.Path.{_≡_, refl, sym, ap, ap₂, _∙_}
 use mathlib.Core.Bool.{true, false}
 use mathlib.Core.List.{List, [], _∷_}
-use Prim.Native.Nat.{ℕ, zero, suc, _*_, _≤_, _<_}
+use Prim.Native.Nat.{ℕ, zero, suc, _*_, _/_, _≤_, _<_}
+use native.Mathlib.Nat.{mul-div-right, min-eq-left}
 use native.Mathlib.Omega.{arith}
 use lib.ListN.{length, getD}
 use Rattle.bits.specs.Lists.{All}
@@ -20,7 +21,8 @@ use Rattle.point.specs.Instance.{scheme}
 use Rattle.point.proofs.Honest.{report-read}
 use Rattle.point.proofs.Instance.{scheme-lawful, p-fits}
 use Rattle.tree.specs.Query.{OfLength}
-use Rattle.idpf.specs.Reports.{seedAt, publicShareAt, lentShare}
+use Rattle.idpf.specs.Reports.{reportCount, seedAt, publicShareAt, sumBelow, lentShare, serverSum}
+use Rattle.idpf.proofs.LentPrefix.{sum-same}
 use Rattle.search.specs.Search.{Lent}
 use Rattle.demands.specs.Honest.{keyAt, Honest}
 use Rattle.demands.proofs.Made.{HonestReport, lentSeeds, lentShares}
@@ -146,3 +148,31 @@ module _ (s : Lent) (xs : List Bits) where
             ap (λ (c : List ℕ). share (scheme e) (readCorrection (s .n) c) (seedAt (s .seeds1) i) true (bitOf q) (length q))
             (public-of (s .shares1) i h (honest .made1 i h))
             ∙ report-read (scheme e) (scheme-lawful e) p-fits (s .n) (reportAt i) (report .made) true q fits
+
+      -- Each server is lent as many reports as there are strings.
+      lent-number : (seeds shares : List ℕ) → length seeds ≡ 16 * length xs → length shares ≡ publicShareLength (s .n) * length xs
+          → reportCount (s .n) seeds shares ≡ length xs
+      lent-number seeds shares sized sized′ =
+          let C = length xs in
+          let as-many : length seeds / 16 ≡ C = omega (arith, sized) in
+          let shares-many : length shares / publicShareLength (s .n) ≡ C =
+          ap (λ (l : ℕ). l / publicShareLength (s .n)) sized′ ∙ mul-div-right C (omega arith) in
+          min-eq-left (omega (arith, as-many, shares-many)) ∙ as-many
+
+      -- Each server's sum is the sum over all of them.
+      module _ (q : Bits) (fits : length q ≤ s .n) where
+        pub sum-of0 : serverSum e (s .n) false (s .seeds0) (s .shares0) (bitOf q) (length q)
+            ≡ sumBelow (length xs) (λ i. reportShare (scheme e) false q (reportAt i))
+        unfolding serverSum
+        sum-of0 =
+            ap (λ (m : ℕ). sumBelow m (lentShare e (s .n) false (s .seeds0) (s .shares0) (bitOf q) (length q)))
+            (lent-number (s .seeds0) (s .shares0) (honest .seeds0 .size) (honest .shares0))
+            ∙ sum-same (length xs) (λ i h. share-of0 i h q fits)
+
+        pub sum-of1 : serverSum e (s .n) true (s .seeds1) (s .shares1) (bitOf q) (length q)
+            ≡ sumBelow (length xs) (λ i. reportShare (scheme e) true q (reportAt i))
+        unfolding serverSum
+        sum-of1 =
+            ap (λ (m : ℕ). sumBelow m (lentShare e (s .n) true (s .seeds1) (s .shares1) (bitOf q) (length q)))
+            (lent-number (s .seeds1) (s .shares1) (honest .seeds1 .size) (honest .shares1))
+            ∙ sum-same (length xs) (λ i h. share-of1 i h q fits)

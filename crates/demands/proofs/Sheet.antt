@@ -73,9 +73,11 @@ sheet =
     -- E
     & search-row 2 2 _ _ _ refl refl
     & refl
+    & number-row 2 2 _ 48 (omega arith) (omega arith) (omega arith) (omega arith) (omega arith)
     -- F
     & search-row 2 2 _ _ _ refl refl
     & refl
+    & number-row 2 2 _ 48 (omega arith) (omega arith) (omega arith) (omega arith) (omega arith)
     -- G
     & search-row 1 1 _ _ _ refl refl
     & number-row 1 1 _ 24 (omega arith) (omega arith) (omega arith) (omega arith) (omega arith)

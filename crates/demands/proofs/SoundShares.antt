@@ -15,7 +15,7 @@ use Rattle.calls.proofs.Judged.{judged-accepted, _&_}
 use Rattle.expander.specs.Expander.{choiceOf, under}
 use Rattle.expander.specs.declared.Expander.{Expander}
 use Rattle.expander.specs.declared.Choice.{Choice}
-use Rattle.expander.specs.declared.Choice.the-variants.{Known}
+use Rattle.expander.specs.declared.Choice.the-variants.{Known, Unknown}
 use Rattle.expander.proofs.Chosen.{known}
 use Rattle.group.specs.Modular.{p}
 use Rattle.point.specs.Share.{bitOf}
@@ -25,6 +25,7 @@ use Rattle.tree.specs.Query.{isQuery, prefixCount, prefixesOf}
 use Rattle.tree.specs.Search.{totals}
 use Rattle.idpf.specs.Reports.{reportCount, sumBelow, serverSum}
 use Rattle.idpf.specs.Share.{wrongLengths, payloadTooLarge, spareBitsSet, shareCauses, shareBytes, shareOutcome}
+use Rattle.search.specs.Search.{Lent, totalUnder, total}
 use Rattle.search.proofs.Outcome.{Whole}
 
 -- a sum in the group is below p
@@ -37,6 +38,15 @@ sum-below (suc m) f = mod-lt _ (omega arith)
 pub server-below : (e : Expander) (n : ℕ) (b : Bool) (seeds shares : List ℕ) (q : ℕ → Bool) (k : ℕ) → serverSum e n b seeds shares q k < p
 unfolding serverSum
 server-below e n b seeds shares q k = sum-below (reportCount n seeds shares) _
+
+-- and so a total is, whatever was lent
+pub total-below : (s : Lent) (q : Bits) → total s q < p
+unfolding totalUnder
+total-below s q = go (choiceOf (s .expander))
+  where
+    go : (c : Choice) → totalUnder c s q < p
+    go (Known e) = mod-lt _ (omega arith)
+    go Unknown = omega arith
 
 -- What a server is lent for C reports of 1 to 256 bits, at most 65,535, is whole; and the number of the expander.
 module _ (n number : ℕ) (e : Expander) (named : choiceOf number ≡ Known e) (from : 1 ≤ n) (to : n ≤ 256)

@@ -13,6 +13,10 @@ use Rattle.idpf.specs.Key.{keyOutcome}
 use Rattle.idpf.specs.Reports.{seedAt, publicShareAt}
 use Rattle.search.specs.Search.{Lent, searchNumber, recordLength, listLength, recordAfter, listAfter}
 
+-- each number is a byte, as in every lent slice
+abbrev pub AreBytes : List ℕ → Type 0
+AreBytes bytes = (i : ℕ) → getD bytes i 0 < 256
+
 -- accepted: it returns 0
 abbrev pub Accepted : Lent → Type 0
 Accepted s = searchNumber s ≡ 0
@@ -25,7 +29,8 @@ recordRead s = take (recordLength s) (recordAfter s)
 abbrev pub listRead : Lent → List ℕ
 listRead s = take (listLength s) (listAfter s)
 
--- what the key maker gives for the string x, with the search's length and expander and the root seeds lent for report i, each server's own
+-- what the key maker gives for the string x, with the search's length and expander and the root seeds lent for report i, each server's own, in
+-- space for exactly the public share; more space gives the same (`key-made`)
 abbrev pub keyAt : Lent → Bits → ℕ → Outcome
 keyAt s x i = keyOutcome (s .n) (s .expander) (pack x) (seedAt (s .seeds0) i) (seedAt (s .seeds1) i) (publicShareLength (s .n))
 

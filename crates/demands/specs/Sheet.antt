@@ -51,7 +51,8 @@ pub data Row : Type 0 where
   payloadAt : Key → Bits → ℕ → ℕ → Row
   -- n, t and strings, and the record and the list that every accepted search of honest reports for them leaves, whatever its seeds and expander
   searchOf : ℕ → ℕ → List Bits → List ℕ → List Bits → Row
-  -- n, t and strings, the bytes of the record area, and the number that every search of honest reports for them returns, if a list fits
+  -- n, t and strings, how many bytes the record area has, and the number that every search of honest reports for them returns, where the list area
+  -- has the space that is named for an honest list and the expander is 1 or 2
   numberWith : ℕ → ℕ → List Bits → ℕ → ℕ → Row
   -- t and strings, and their cut strings
   cutsOf : ℕ → List Bits → List Bits → Row
@@ -124,9 +125,11 @@ table =
     -- E
     ∷ searchOf 2 2 (s01 ∷ s01 ∷ s10 ∷ []) (twoLevels 2 1 0 2) (s01 ∷ [])
     ∷ cutsOf 2 (s01 ∷ s01 ∷ s10 ∷ []) (s01 ∷ s01 ∷ s1 ∷ [])
+    ∷ numberWith 2 2 (s01 ∷ s01 ∷ s10 ∷ []) 48 0
     -- F
     ∷ searchOf 2 2 (s01 ∷ s00 ∷ s11 ∷ []) (twoLevels 2 1 1 1) []
     ∷ cutsOf 2 (s01 ∷ s00 ∷ s11 ∷ []) (s01 ∷ s00 ∷ s1 ∷ [])
+    ∷ numberWith 2 2 (s01 ∷ s00 ∷ s11 ∷ []) 48 0
     -- G
     ∷ searchOf 1 1 [] ((0 ∷ 0 ∷ 0 ∷ 0 ∷ 0 ∷ 2 ∷ 0 ∷ 128 ∷ []) ++ replicate 16 0) []
     ∷ numberWith 1 1 [] 24 0

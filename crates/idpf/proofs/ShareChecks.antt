@@ -3,6 +3,7 @@ use mathlib.Core.Path.{_≡_, refl, ap₂}
 use mathlib.Core.Bool.{Bool, true, false, not, _&&_}
 use mathlib.Core.List.{List}
 use Prim.Native.Nat.{ℕ, _+_, _*_, _/_, _%_, _^_, _≤_, _<_}
+use native.Mathlib.Nat.{mod-zero, div-zero}
 use native.Mathlib.Numerals.{add-one}
 use native.Mathlib.Omega.{arith}
 use lib.ListN.{length, getD, take, drop}
@@ -58,6 +59,17 @@ module _ (n : ℕ) (seeds shares : List ℕ) {size : ℕ} (e : size ≡ publicSh
   module _ (s : length seeds % 16 ≡ 0) where
     pub odd-shares : (length shares % size ≡ 0 → ⊥) → true ≡ wrongLengths n seeds shares
     odd-shares h = rw (eq-eqb (length seeds % 16) 0 s, ← e, ne-eqb (length shares % size) 0 h)
+
+    -- a public share of no bytes: there are no reports
+    module _ (z : size ≡ 0) where
+      none-left : (length shares % publicShareLength n ≡ length shares) × (length shares / publicShareLength n ≡ 0)
+      none-left = rw (← e, z) (mod-zero (length shares), div-zero (length shares))
+
+      pub some-shares : (length shares ≡ 0 → ⊥) → true ≡ wrongLengths n seeds shares
+      some-shares h = rw (eq-eqb (length seeds % 16) 0 s, none-left .0, ne-eqb (length shares) 0 h)
+
+      pub some-seeds : length shares ≡ 0 → not (eqb (length seeds / 16) 0) ≡ wrongLengths n seeds shares
+      some-seeds h = rw (eq-eqb (length seeds % 16) 0 s, none-left .0, none-left .1, eq-eqb (length shares) 0 h)
 
     pub counts : length shares % size ≡ 0 → not (eqb (length seeds / 16) (length shares / size)) ≡ wrongLengths n seeds shares
     counts h = rw (eq-eqb (length seeds % 16) 0 s, ← e, eq-eqb (length shares % size) 0 h)

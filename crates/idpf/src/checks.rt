@@ -63,7 +63,7 @@ fn spare_bits_zero_at(n: u16, shares: &[u8], at: usize) -> bool
 }
 
 // Whether all payload corrections of every lent public share are below p.
-pub(crate) fn all_payloads_below(n: u16, seeds: &[u8], shares: &[u8]) -> bool
+pub fn all_payloads_below(n: u16, seeds: &[u8], shares: &[u8]) -> bool
     ensures { λ r. ⌜ r ≡ not (payloadTooLarge n (now (seeds .entry)) (now (shares .entry))) ⌝ }
 {
     let size = public_share_length(n);
@@ -79,7 +79,7 @@ pub(crate) fn all_payloads_below(n: u16, seeds: &[u8], shares: &[u8]) -> bool
 }
 
 // Whether the spare bits of every lent public share are zero.
-pub(crate) fn all_spare_bits_zero(n: u16, seeds: &[u8], shares: &[u8]) -> bool
+pub fn all_spare_bits_zero(n: u16, seeds: &[u8], shares: &[u8]) -> bool
     ensures { λ r. ⌜ r ≡ not (spareBitsSet n (now (seeds .entry)) (now (shares .entry))) ⌝ }
 {
     let size = public_share_length(n);

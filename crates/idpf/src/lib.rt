@@ -8,6 +8,9 @@ mod reports;
 mod shares;
 mod walk;
 
+pub use checks::all_payloads_below;
+pub use checks::all_spare_bits_zero;
 pub use keys::make_key;
 pub use reports::server_sum;
 pub use shares::share;
+pub use shares::wrong_lengths;

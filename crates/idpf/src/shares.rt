@@ -20,13 +20,18 @@ ghost use Rattle.idpf.specs.Reports.{packedBit, serverSum};
 ghost use Rattle.idpf.specs.Share.{wrongLengths, shareCauses, shareBytes, shareOutcome};
 
 // Whether the seeds or the public shares have the wrong length, or disagree in count.
-fn wrong_lengths(n: u16, seeds: &[u8], shares: &[u8]) -> bool
-    requires { ⌜ 0 < n ⌝ }
+pub fn wrong_lengths(n: u16, seeds: &[u8], shares: &[u8]) -> bool
     ensures { λ r. ⌜ r ≡ wrongLengths n (now (seeds .entry)) (now (shares .entry)) ⌝ }
 {
     let size = public_share_length(n);
     if seeds.len() % 16 != 0 {
         return true;
+    }
+    if size == 0 {
+        if shares.len() != 0 {
+            return true;
+        }
+        return seeds.len() / 16 != 0;
     }
     if shares.len() % size != 0 {
         return true;

@@ -4,3 +4,11 @@ pub mod SearchDue
 pub mod Areas
 pub mod Acceptance
 pub mod Rule
+pub mod Pieces
+pub mod Asking
+pub mod Reading
+pub mod Below
+pub mod Turn
+pub mod Opening
+pub mod Judging
+pub mod Closing

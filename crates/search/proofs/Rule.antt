@@ -14,9 +14,10 @@ use Rattle.expander.specs.declared.Choice.{Choice}
 use Rattle.expander.specs.declared.Choice.the-variants.{Known}
 use Rattle.group.specs.Modular.{p}
 use Rattle.point.specs.Share.{bitOf}
-use Rattle.tree.specs.Query.{packs}
-use Rattle.tree.specs.Search.{searchRecord, searchList}
+use Rattle.tree.specs.Query.{packs, limit}
+use Rattle.tree.specs.Search.{children, searchRecord, searchList}
 use Rattle.tree.specs.Cut.{honestRecord, honestList, honestFits}
+use Rattle.tree.proofs.Limit.{fits-within}
 use Rattle.tree.proofs.Agree.{list-agrees, fits-agree, record-agrees}
 use Rattle.idpf.specs.Reports.{serverSum}
 use Rattle.search.specs.Search.{Lent, reports, totalUnder, total, recordBytes, listBytes, queriesFit}
@@ -27,6 +28,11 @@ pub total-sum : (s : Lent) (e : Expander) → choiceOf (s .expander) ≡ Known e
     ≡ (serverSum e (s .n) false (s .seeds0) (s .shares0) (bitOf q) (length q) + serverSum e (s .n) true (s .seeds1) (s .shares1) (bitOf q) (length q)) % p
 unfolding totalUnder
 total-sum s e named q = ap (λ (c : Choice). totalUnder c s q) named
+
+-- Where every query fits, the children of the kept prefixes of each length below n are within the limit.
+pub queries-within : (s : Lent) → queriesFit s ≡ true → (k : ℕ) → k < s .n → length (children (searchList (leb (s .t)) (total s) k)) ≤ limit
+unfolding queriesFit
+queries-within s fits = fits-within (leb (s .t)) (total s) (s .n) fits
 
 -- Where the total of each prefix of 1 to n bits is the number of strings that have it, and there are as many reports as strings:
 module _ (s : Lent) (xs : List Bits) (held : (q : Bits) → 0 < length q → length q ≤ s .n → total s q ≡ count xs q) (as-many : reports s ≡ length xs) where

@@ -1,6 +1,6 @@
 -- The number that a search returns is the one that is due, where the public shares are bytes. Assumes nothing.
 use Prim.Native.Nat.{ℕ, _<_}
-use mathlib.Core.Path.{_≡_, sym, _∙_}
+use mathlib.Core.Path.{sym, _∙_}
 use mathlib.Core.Bool.{Bool, false, not, true≢false, _||_}
 use mathlib.Core.List.{List}
 use mathlib.Core.Logic.{_≢_, _⊎_}
@@ -12,9 +12,10 @@ use Rattle.calls.proofs.Decisions.{passed, failed, failed-test, differ, differ-
 use Rattle.calls.proofs.Judged.{number-due, none, next}
 use Rattle.expander.specs.Expander.{isExpander}
 use Rattle.expander.proofs.Chosen.{unnamed, unnamed-test}
+use Rattle.tree.proofs.Limit.{fits-not}
 use Rattle.idpf.specs.Share.{WrongLengths, wrongLengths, payloadTooLarge, spareBitsSet}
 use Rattle.idpf.proofs.ShareDue.{wrong, wrong-test, too-large, too-large-test, bits-set, bits-set-test}
-use Rattle.search.specs.Search.{Lent, reports, recordBytes, listBytes, queriesFit, sameBytes, searchClauses, searchNumber}
+use Rattle.search.specs.Search.{Lent, reports, recordBytes, listBytes, queriesFit, sameBytes, QueryTooLong, searchClauses, searchNumber}
 use Rattle.search.proofs.SameBytes.{same-equal, equal-same}
 
 -- ---- the causes
@@ -48,13 +49,22 @@ module _ (s : Lent) where
       either-test wrong0 (wrong1 || other-seeds) (wrong-test (s .n) (s .seeds0) (s .shares0))
       (either-test wrong1 other-seeds (wrong-test (s .n) (s .seeds1) (s .shares1)) (differ-test _ _))
 
-  room : T (no-record || (no-list || not (queriesFit s)))
-      → (length (s .recordArea) < length (recordBytes s)) ⊎ (length (s .listArea) < length (listBytes s)) ⊎ (queriesFit s ≡ false)
-  room = either no-record (no-list || not (queriesFit s)) (ltb→lt _ _) (either no-list (not (queriesFit s)) (ltb→lt _ _) (failed (queriesFit s)))
+  -- the test of the limit decides whether some query would pass it
+  too-long : T (not (queriesFit s)) → QueryTooLong s
+  unfolding queriesFit
+  too-long t = fits-not _ _ _ .0 (failed (queriesFit s) t)
 
-  room-test : (length (s .recordArea) < length (recordBytes s)) ⊎ (length (s .listArea) < length (listBytes s)) ⊎ (queriesFit s ≡ false)
+  too-long-test : QueryTooLong s → T (not (queriesFit s))
+  unfolding queriesFit
+  too-long-test d = failed-test (fits-not _ _ _ .1 d)
+
+  room : T (no-record || (no-list || not (queriesFit s)))
+      → (length (s .recordArea) < length (recordBytes s)) ⊎ (length (s .listArea) < length (listBytes s)) ⊎ QueryTooLong s
+  room = either no-record (no-list || not (queriesFit s)) (ltb→lt _ _) (either no-list (not (queriesFit s)) (ltb→lt _ _) too-long)
+
+  room-test : (length (s .recordArea) < length (recordBytes s)) ⊎ (length (s .listArea) < length (listBytes s)) ⊎ QueryTooLong s
       → T (no-record || (no-list || not (queriesFit s)))
-  room-test = either-test no-record (no-list || not (queriesFit s)) (lt→ltb _ _) (either-test no-list (not (queriesFit s)) (lt→ltb _ _) failed-test)
+  room-test = either-test no-record (no-list || not (queriesFit s)) (lt→ltb _ _) (either-test no-list (not (queriesFit s)) (lt→ltb _ _) too-long-test)
 
 -- two lists of bytes differ
 unequal : (xs ys : List ℕ) → T (not (sameBytes xs ys)) → xs ≢ ys

@@ -1,6 +1,5 @@
 -- The call `search`: document 01, 'The search' and 'Causes of refusal'. Assumes nothing.
 use Prim.Native.Nat.{ℕ, _/_, _<_}
-use mathlib.Core.Path.{_≡_}
 use mathlib.Core.Bool.{Bool, true, false, cond, not, _&&_, _||_}
 use mathlib.Core.List.{List, [], _∷_}
 use mathlib.Core.Logic.{_≢_, _⊎_}
@@ -16,8 +15,8 @@ use Rattle.expander.specs.declared.Choice.{Choice}
 use Rattle.expander.specs.declared.Choice.the-variants.{Known, Unknown}
 use Rattle.group.specs.Modular.{field}
 use Rattle.point.specs.Share.{bitOf}
-use Rattle.tree.specs.Query.{packs}
-use Rattle.tree.specs.Search.{searchRecord, searchList, searchFits}
+use Rattle.tree.specs.Query.{packs, limit}
+use Rattle.tree.specs.Search.{children, searchRecord, searchList, searchFits}
 use Rattle.idpf.specs.Reports.{serverSum}
 use Rattle.idpf.specs.Share.{WrongLengths, wrongLengths, PayloadTooLarge, payloadTooLarge, SpareBitsSet, spareBitsSet}
 
@@ -33,6 +32,20 @@ pub record Lent : Type 0 where
   pub shares1 : List ℕ
   pub recordArea : List ℕ
   pub listArea : List ℕ
+
+-- the same, by its parts
+abbrev pub lent : ℕ → ℕ → ℕ → List ℕ → List ℕ → List ℕ → List ℕ → List ℕ → List ℕ → Lent
+lent n t expander seeds0 shares0 seeds1 shares1 recordArea listArea = record {
+  n = n;
+  t = t;
+  expander = expander;
+  seeds0 = seeds0;
+  shares0 = shares0;
+  seeds1 = seeds1;
+  shares1 = shares1;
+  recordArea = recordArea;
+  listArea = listArea;
+}
 
 -- how many reports there are
 abbrev pub reports : Lent → ℕ
@@ -63,6 +76,10 @@ queriesFit s = searchFits (leb (s .t)) (total s) (s .n)
 
 -- ---- causes of refusal
 
+-- a next query would pass 131,070 prefixes: for some k below n, the kept prefixes of k bits have more children than that
+abbrev pub QueryTooLong : Lent → Type 0
+QueryTooLong s = (k : ℕ) × (k < s .n) × (limit < length (children (searchList (leb (s .t)) (total s) k)))
+
 -- whether two lists of bytes are the same
 abbrev pub sameBytes : List ℕ → List ℕ → Bool
 sameBytes [] [] = true
@@ -81,7 +98,7 @@ searchClauses s =
     ∷ clause 6 (PayloadTooLarge (s .n) (s .seeds0) (s .shares0) ⊎ PayloadTooLarge (s .n) (s .seeds1) (s .shares1))
     ∷ clause 7 (SpareBitsSet (s .n) (s .seeds0) (s .shares0) ⊎ SpareBitsSet (s .n) (s .seeds1) (s .shares1))
     ∷ clause 8 (s .shares0 ≢ s .shares1)
-    ∷ clause 11 ((length (s .recordArea) < length (recordBytes s)) ⊎ (length (s .listArea) < length (listBytes s)) ⊎ (queriesFit s ≡ false))
+    ∷ clause 11 ((length (s .recordArea) < length (recordBytes s)) ⊎ (length (s .listArea) < length (listBytes s)) ⊎ QueryTooLong s)
     ∷ []
 
 -- the same, as they are tested

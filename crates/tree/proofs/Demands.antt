@@ -11,14 +11,14 @@ use lib.Dec.{leb}
 use Rattle.bits.specs.Lists.{_∈_}
 use Rattle.bits.specs.Strings.{Bits, _▹_, isPrefix, count, Ascending}
 use Rattle.tree.specs.Query.{OfLength}
-use Rattle.tree.specs.Search.{heading, headingLength, searchRecord}
+use Rattle.tree.specs.Search.{start, heading, headingLength, searchRecord, searchList}
 use Rattle.tree.specs.Cut.{Heavy, honestRecord, honestList, cut, cuts, times, Rearranged}
 use Rattle.tree.proofs.Lists.{all-mem}
 use Rattle.tree.proofs.Rearranging.{rearranged-number, rearranged-length, ascending-once}
 use Rattle.tree.proofs.Kept.{Open, open-prefixes, Survives, list-survives, list-exact, list-ascending}
 use Rattle.tree.proofs.Totals.{heavy, heavy-open, survives-heavy, count-le}
 use Rattle.tree.proofs.Cutting.{trim, cuts-trim, count-trim, times-trim, agree-cut}
-use Rattle.tree.proofs.Records.{agree→record, record→agree}
+use Rattle.tree.proofs.Records.{agree→record, record→kept, record→agree}
 use Rattle.tree.proofs.Lengths.{heading-length}
 
 -- ---- demand 2
@@ -71,3 +71,9 @@ records-tell-cuts n t xs ys h ax ay cx cy = (
         sym (count-trim (heavy t xs) p b xs (o .0))
         ∙ rearranged-number (isPrefix (p ▹ b)) (map (trim (heavy t xs)) xs) (map (trim (heavy t ys)) ys) r
         ∙ count-trim (heavy t ys) p b ys (o .1)
+
+-- Where all totals fit 8 bytes, two searches for strings of n bits with the same test of a total and equal records have equal lists.
+pub records-tell-lists : (reaches : ℕ → Bool) (T U : Bits → ℕ) → ((q : Bits) → T q < 256 ^ 8) → ((q : Bits) → U q < 256 ^ 8) → (C D n : ℕ)
+    → searchRecord reaches T C n ≡ searchRecord reaches U D n → searchList reaches T n ≡ searchList reaches U n
+unfolding searchRecord searchList
+records-tell-lists reaches T U small small′ C D n e = record→kept reaches T U small small′ n 0 start (heading-apart C D _ _ e)

@@ -7,6 +7,7 @@ pub mod Queries
 pub mod Steps
 pub mod Kept
 pub mod Asked
+pub mod Limit
 pub mod Totals
 pub mod Lengths
 pub mod Cutting

@@ -12,7 +12,7 @@ use Rattle.bits.specs.Strings.{Bits, _▹_}
 use Rattle.bits.specs.Numbers.{little}
 use Rattle.bits.proofs.Endian.{little-length, little-injective}
 use Rattle.tree.specs.Query.{query}
-use Rattle.tree.specs.Search.{start, children, totals, level, recordFrom}
+use Rattle.tree.specs.Search.{start, children, totals, level, keptFrom, recordFrom}
 use Rattle.tree.proofs.Lists.{all-mem, mem-select, all-select}
 use Rattle.tree.proofs.Children.{mem-children, all-children}
 use Rattle.tree.proofs.Agree.{SameAt, kept-same, level-same}
@@ -84,3 +84,11 @@ module _ (reaches : ℕ → Bool) (T U : Bits → ℕ) where
 
     pub record→agree : (n : ℕ) → recordFrom K T n 0 start ≡ recordFrom L U n 0 start → Agree reaches n T U
     record→agree n e = record-split n 0 start e [] (here refl)
+
+    -- So the prefixes kept after as many levels are the same.
+    pub record→kept : (m k : ℕ) (ps : List Bits) → recordFrom K T m k ps ≡ recordFrom L U m k ps → keptFrom K m ps ≡ keptFrom L m ps
+    record→kept zero k ps e = refl
+    record→kept (suc m) k ps e =
+        let d = level-split k (children ps) _ _ e in
+        let s = kept-same T U reaches (children ps) (d .0) in
+        record→kept m (suc k) (select K (children ps)) (d .1 ∙ ap (recordFrom L U m (suc k)) (sym s)) ∙ ap (keptFrom L m) s

@@ -1,9 +1,10 @@
 -- The search as a loop: what one level adds, and what is left once nothing is kept. Assumes nothing.
-use Prim.Native.Nat.{ℕ, zero, suc, _-_, _≤_, _<_}
+use Prim.Native.Nat.{ℕ, zero, suc, _+_, _-_, _≤_, _<_}
 use native.Mathlib.Omega.{arith}
-use mathlib.Core.Path.{_≡_, refl, ap}
+use native.Mathlib.Nat.{add-zero}
+use mathlib.Core.Path.{_≡_, refl, sym, ap, _∙_}
 use mathlib.Core.Bool.{Bool, true, _&&_}
-use mathlib.Core.List.{List, [], _++_}
+use mathlib.Core.List.{List, [], _++_, append-assoc, append-nil}
 use lib.ListN.{length}
 use lib.Dec.{leb}
 use Rattle.bits.specs.Lists.{select}
@@ -39,6 +40,22 @@ module _ (keeps : Bits → Bool) where
   pub record-nothing : (T : Bits → ℕ) (m k : ℕ) → recordFrom keeps T m k [] ≡ []
   record-nothing T zero k = refl
   record-nothing T (suc m) k = record-nothing T m (suc k)
+
+  -- one level more is one step more at the end
+  pub kept-last : (m : ℕ) (ps : List Bits) → keptFrom keeps (suc m) ps ≡ select keeps (children (keptFrom keeps m ps))
+  kept-last zero ps = refl
+  kept-last (suc m) ps = kept-last m (select keeps (children ps))
+
+  pub record-last : (T : Bits → ℕ) (m k : ℕ) (ps : List Bits)
+      → recordFrom keeps T (suc m) k ps ≡ recordFrom keeps T m k ps ++ level T (k + m) (children (keptFrom keeps m ps))
+  record-last T zero k ps = rw (add-zero, append-nil)
+  record-last T (suc m) k ps =
+      let qs = select keeps (children ps) in
+      let e : suc k + m ≡ k + suc m = omega arith in
+      let before = recordFrom keeps T m (suc k) qs in
+      ap (λ (r : List ℕ). level T k (children ps) ++ r)
+      (record-last T m (suc k) qs ∙ ap (λ (j : ℕ). before ++ level T j (children (keptFrom keeps m qs))) e)
+      ∙ sym (append-assoc (level T k (children ps)) before _)
 
 -- A record begins with the first query and its two totals.
 pub record-begins : (reaches : ℕ → Bool) (T : Bits → ℕ) (C n : ℕ) → 1 ≤ n

@@ -10,7 +10,7 @@ use Rattle.bits.specs.Strings.{Bits, count}
 use Rattle.tree.specs.Search.{searchRecord, searchList, searchFits}
 
 -- ---- honest searches: each of the strings xs is held by one installation, and the total of a prefix is the number of strings that have it;
--- that honest reports have these totals is shown in `point`
+-- that honest reports have these totals is shown in `demands` (`honest-total`)
 
 -- heavy: at least t installations hold s
 abbrev pub Heavy : ℕ → List Bits → Bits → Type 0

@@ -19,7 +19,7 @@ abbrev pub children : List Bits → List Bits
 children [] = []
 children (p ∷ ps) = p ▹ false ∷ p ▹ true ∷ children ps
 
--- the totals of the prefixes, 8 bytes each
+-- the number that T gives for each prefix, 8 bytes each: its total, or one server's share
 abbrev pub totals : (Bits → ℕ) → List Bits → List ℕ
 totals T [] = []
 totals T (q ∷ qs) = little 8 (T q) ++ totals T qs

@@ -47,14 +47,26 @@ fn byte(x: u8) {
     io::print_hex(OUT, x as u64, 2);
 }
 
-// Bytes in hexadecimal, and the end of the line.
-fn line(bytes: &[u8]) {
+// Bytes in hexadecimal.
+fn hex(bytes: &[u8]) {
     let mut i = 0;
     while i < bytes.len() {
         byte(bytes[i]);
         i += 1;
     }
+}
+
+// Bytes in hexadecimal, and the end of the line.
+fn line(bytes: &[u8]) {
+    hex(bytes);
     io::write_all(OUT, b"\n");
+}
+
+// The first `end` of the bytes.
+pub(crate) fn first_bytes(bytes: &[u8], end: usize) {
+    if end <= bytes.len() {
+        hex(&bytes[..end]);
+    }
 }
 
 // The first `end` of the bytes, on a line.
@@ -157,40 +169,46 @@ pub(crate) fn short_strings(expander: u64) {
 }
 
 // The string of 256 bits by the same rule.
+const LONG: [u8; 32] = [
+    0x49u8,
+    0x24u8,
+    0x92u8,
+    0x49u8,
+    0x24u8,
+    0x92u8,
+    0x49u8,
+    0x24u8,
+    0x92u8,
+    0x49u8,
+    0x24u8,
+    0x92u8,
+    0x49u8,
+    0x24u8,
+    0x92u8,
+    0x49u8,
+    0x24u8,
+    0x92u8,
+    0x49u8,
+    0x24u8,
+    0x92u8,
+    0x49u8,
+    0x24u8,
+    0x92u8,
+    0x49u8,
+    0x24u8,
+    0x92u8,
+    0x49u8,
+    0x24u8,
+    0x92u8,
+    0x49u8,
+    0x24u8,
+];
+
 pub(crate) fn long_string(expander: u64) {
-    let string = [
-        0x49u8,
-        0x24u8,
-        0x92u8,
-        0x49u8,
-        0x24u8,
-        0x92u8,
-        0x49u8,
-        0x24u8,
-        0x92u8,
-        0x49u8,
-        0x24u8,
-        0x92u8,
-        0x49u8,
-        0x24u8,
-        0x92u8,
-        0x49u8,
-        0x24u8,
-        0x92u8,
-        0x49u8,
-        0x24u8,
-        0x92u8,
-        0x49u8,
-        0x24u8,
-        0x92u8,
-        0x49u8,
-        0x24u8,
-        0x92u8,
-        0x49u8,
-        0x24u8,
-        0x92u8,
-        0x49u8,
-        0x24u8,
-    ];
-    report(expander, 256, &string);
+    report(expander, 256, &LONG);
+}
+
+// A whole search of that string alone.
+pub(crate) fn long_search(expander: u64) {
+    crate::searches::longest(expander, &LONG, &SEED0, &SEED1);
 }

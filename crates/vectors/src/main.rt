@@ -1,5 +1,6 @@
-// Runs the published vectors of AES-128, both expanders on a fixed seed, keys and shares, and prints what comes out.
+// Runs the published vectors of AES-128, both expanders on a fixed seed, keys and shares, and whole searches, and prints what comes out.
 mod keys;
+mod searches;
 
 // Standard output.
 const OUT: i32 = 1;
@@ -94,4 +95,14 @@ fn main() {
     keys::short_strings(1);
     keys::short_strings(2);
     keys::long_string(1);
+    searches::examples(2);
+    searches::examples(1);
+    searches::bounds(b"G", 1, 1);
+    searches::bounds(b"n 256", 256, 1);
+    searches::bounds(b"n 257", 257, 1);
+    searches::bounds(b"n 0", 0, 1);
+    searches::bounds(b"t 0", 1, 0);
+    searches::bounds(b"t 65535", 1, 65535);
+    searches::bounds(b"t 65536", 1, 65536);
+    keys::long_search(1);
 }

@@ -1,8 +1,8 @@
-//! Keys and shares of chosen strings as hexadecimal lines.
+//! Keys and shares of chosen strings, and whole searches, as lines.
 
 use second::keys::public_share_size;
 use second::query::{first, pack, write};
-use second::{key, share};
+use second::{key, search, share};
 
 fn hex(bytes: &[u8]) -> String {
     bytes.iter().map(|byte| format!("{byte:02x}")).collect()
@@ -15,6 +15,113 @@ fn main() {
         }
     }
     print(1, 256);
+    for expander in [2, 1] {
+        examples(expander);
+    }
+    for (label, n, t) in [
+        ("G", 1, 1),
+        ("n 256", 256, 1),
+        ("n 257", 257, 1),
+        ("n 0", 0, 1),
+        ("t 0", 1, 0),
+        ("t 65535", 1, 65_535),
+        ("t 65536", 1, 65_536),
+    ] {
+        let mut record = [255u8; 24];
+        let mut list = [255u8; 1];
+        let found = search(n, t, 2, &[], &[], &[], &[], &mut record, &mut list);
+        show(label, found, &record, &list);
+    }
+    longest(1);
+}
+
+/// The line of a search: its label, number, record and list.
+fn show(label: &str, found: second::Found, record: &[u8], list: &[u8]) {
+    let record = hex(&record[..found.record_length as usize]);
+    let list = hex(&list[..found.list_length as usize]);
+    println!("search {label} {} {record} {list}", found.number);
+}
+
+/// Root seeds of three reports, which differ in their first bytes.
+fn seeds(first: u64) -> Vec<u8> {
+    let mut seeds = vec![0u8; 48];
+    for (i, part) in [1, 2, 3].into_iter().enumerate() {
+        seeds[16 * i..16 * i + 8].copy_from_slice(&(first / part).to_le_bytes());
+    }
+    seeds
+}
+
+/// Examples D, E, F and J.
+fn examples(expander: u64) {
+    let (seeds0, seeds1) = (seeds(0xfedc_ba98_7654_3210), seeds(0x0123_4567_89ab_cdef));
+    for (label, strings, room) in [
+        ("D", [0x40u8, 0x40, 0xc0], 48),
+        ("E", [0x40, 0x40, 0x80], 48),
+        ("F", [0x40, 0x00, 0xc0], 48),
+        ("J", [0x40, 0x40, 0xc0], 47),
+    ] {
+        let mut shares = vec![0u8; 147];
+        for (i, string) in strings.into_iter().enumerate() {
+            let (s0, s1) = (&seeds0[16 * i..16 * i + 16], &seeds1[16 * i..16 * i + 16]);
+            let made = key(
+                2,
+                expander,
+                &[string],
+                s0,
+                s1,
+                &mut shares[49 * i..49 * i + 49],
+            );
+            assert_eq!((made.number, made.length), (0, 49));
+        }
+        let mut record = vec![255u8; room];
+        let mut list = [255u8; 1];
+        let found = search(
+            2,
+            2,
+            expander,
+            &seeds0,
+            &shares,
+            &seeds1,
+            &shares,
+            &mut record,
+            &mut list,
+        );
+        show(label, found, &record, &list);
+        if found.number == 11 {
+            println!("search record area {}", hex(&record));
+        }
+    }
+}
+
+/// A search of one string of 256 bits with t = 1.
+fn longest(expander: u64) {
+    let string = pack(
+        &(0..256)
+            .map(|i| (i * i + i / 3) % 2 == 1)
+            .collect::<Vec<bool>>(),
+    );
+    let seed0: Vec<u8> = (0..16).collect();
+    let seed1: Vec<u8> = (16..32).collect();
+    let mut share = vec![0u8; public_share_size(256)];
+    key(256, expander, &string, &seed0, &seed1, &mut share);
+    let mut record = vec![0u8; 14_080];
+    let mut list = [0u8; 32];
+    let found = search(
+        256,
+        1,
+        expander,
+        &seed0,
+        &share,
+        &seed1,
+        &share,
+        &mut record,
+        &mut list,
+    );
+    let list = hex(&list[..found.list_length as usize]);
+    println!(
+        "search 256 bits {} {} {list}",
+        found.number, found.record_length
+    );
 }
 
 fn print(expander: u64, n: usize) {

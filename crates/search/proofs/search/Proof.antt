@@ -1,0 +1,82 @@
+-- `search::search` meets its contract: a cause of what is lent refuses it; where none applies the expander is known, and the levels decide. Assumes nothing.
+use native.Mathlib.Omega.{arith}
+use mathlib.Core.Path.{_≡_, sym, _∙_}
+use borrow.Author.Needs.{needs}
+use Rattle.calls.specs.Causes.{numberDue}
+use Rattle.search.specs.Search.{Lent, lent}
+use Rattle.search.proofs.Judging.{before}
+use Rattle.search.proofs.Closing.{refused, within-bounds, never-unknown, settled}
+use Rattle.search.proofs.search.Statement.{statement}
+use Rattle.search.proofs.search.Tie as tie
+
+abbrev start : tie.After-first-cause → tie.Start
+start f = f .before .before .before .before .before .before .before
+
+-- what is lent
+abbrev lend : tie.After-first-cause → Lent
+lend f =
+    let a = start f .args in
+    lent (a .n) (a .t) (a .expander) (a .seeds0 .now) (a .public-shares0 .now) (a .seeds1 .now) (a .public-shares1 .now) (a .«record» .now) (a .list .now)
+
+-- no cause of what is lent applies
+clear : (c : tie.Else1) → numberDue (before (lend (c .before))) ≡ 0
+clear c = sym (c .before .first-cause .ensures) ∙ c .if1 .left
+
+first-cause-requires : tie.Need-first-cause-requires
+first-cause-requires c κs = search needs
+
+returns : tie.Need-returns
+returns c = refused (lend (c .before)) (c .before .first-cause .result) (c .before .first-cause .ensures) (c .if1 .taken)
+
+choose-requires : tie.Need-choose-requires
+choose-requires c κs = search needs
+
+enum-known-e : tie.Need-enum-known-e
+enum-known-e c = search needs
+
+cast-run : tie.Need-cast-run
+cast-run c =
+    let i = c .before .before .before .before in
+    omega (arith, within-bounds (lend (i .before)) (clear i) .1)
+
+run-requires : tie.Need-run-requires
+run-requires c κs = let i = c .before .before .before .before .before .before in within-bounds (lend (i .before)) (clear i)
+
+enum-told : tie.Need-enum-told
+enum-told c = search needs
+
+same-length : tie.Need-same-length
+same-length c = search needs
+
+same-length-2 : tie.Need-same-length-2
+same-length-2 c = search needs
+
+returns-2 : tie.Need-returns-2
+returns-2 c =
+    let r = c .before .before .before .before in
+    let x = r .before .before .before .before in
+    let h = x .before .before in
+    let i = h .before in
+    settled (lend (i .before)) (x .e .given .0 .0) (sym (h .choose .ensures) ∙ x .e .given .1) (clear i) _ _ _ _ _ (r .run .ensures .1) (r .run .ensures .0)
+
+returns-3 : tie.Need-returns-3
+returns-3 c =
+    let h = c .before .before in
+    let i = h .before in
+    absurd (never-unknown (lend (i .before)) (clear i) (sym (h .choose .ensures) ∙ c .enum-told .given .1))
+
+pub search-spec : {M : Type 1} → statement M
+search-spec =
+    tie.close
+    (tie.spec
+    first-cause-requires
+    returns
+    choose-requires
+    enum-known-e
+    cast-run
+    run-requires
+    enum-told
+    same-length
+    same-length-2
+    returns-2
+    returns-3)

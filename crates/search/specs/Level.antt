@@ -1,0 +1,108 @@
+-- One level of a search and those below it, as bytes in the record area: for contracts that are not published. Assumes nothing.
+use Prim.Native.Nat.{ℕ, _+_, _≤_, _<_}
+use mathlib.Core.Path.{_≡_}
+use mathlib.Core.Bool.{Bool, true, false, cond}
+use mathlib.Core.List.{List, [], _∷_, _++_, map}
+use mathlib.Core.Logic.{_⊎_}
+use lib.ListN.{length, drop}
+use lib.Dec.{leb}
+use Rattle.bits.specs.Lists.{All, select}
+use Rattle.bits.specs.Strings.{Bits, _▹_}
+use Rattle.bits.specs.Numbers.{fromLittle}
+use Rattle.bits.specs.Packing.{packedLength, pack, unpack}
+use Rattle.bits.specs.Places.{putAt}
+use Rattle.expander.specs.declared.Expander.{Expander}
+use Rattle.group.specs.Modular.{field}
+use Rattle.point.specs.Share.{bitOf}
+use Rattle.tree.specs.Query.{packs, parts}
+use Rattle.tree.specs.Search.{start, totals, keptFrom, fitsFrom, recordFrom, isKept}
+use Rattle.idpf.specs.Reports.{serverSum}
+
+-- ---- one level
+
+-- the total of a prefix: the sum of all reports' shares from both servers
+abbrev pub totalOf : Expander → ℕ → List ℕ → List ℕ → List ℕ → List ℕ → Bits → ℕ
+totalOf e n seeds0 shares0 seeds1 shares1 q =
+    field .add (serverSum e n false seeds0 shares0 (bitOf q) (length q)) (serverSum e n true seeds1 shares1 (bitOf q) (length q))
+
+-- m strings of k bits each, packed, from place `at` on
+abbrev pub stringsAt : ℕ → ℕ → ℕ → List ℕ → List Bits
+stringsAt k m at bytes = map (unpack k) (parts (packedLength k) m (drop at bytes))
+
+-- m numbers of 8 bytes each from place `at` on
+abbrev pub numbersAt : ℕ → ℕ → List ℕ → List ℕ
+numbersAt m at bytes = map fromLittle (parts 8 m (drop at bytes))
+
+-- those of the strings whose number is at least t
+abbrev pub reaching : ℕ → List Bits → List ℕ → List Bits
+reaching t [] xs = []
+reaching t (q ∷ qs) [] = []
+reaching t (q ∷ qs) (x ∷ xs) = cond (leb t x) (q ∷ reaching t qs xs) (reaching t qs xs)
+
+-- both children of a prefix, packed
+abbrev pub both : Bits → List ℕ
+both s = pack (s ▹ false) ++ pack (s ▹ true)
+
+-- each of these is what packing gives for its first k bits
+abbrev pub Packed : ℕ → List (List ℕ) → Type 0
+Packed k ss = All (λ s. pack (unpack k s) ≡ s) ss
+
+-- The list of the strings, packed, is written and the number is 0; or it does not fit its area, and the number is 11.
+abbrev pub Listed : List ℕ → List ℕ → List ℕ → ℕ → ℕ → ℕ → ℕ → Type 0
+Listed strings listArea listAfter end number recordLength listLength =
+    ((number ≡ 0) × (length strings ≤ length listArea) × (recordLength ≡ end) × (listLength ≡ length strings) × (listAfter ≡ putAt listArea 0 strings))
+    ⊎ ((number ≡ 11) × (length listArea < length strings) × (recordLength ≡ 0) × (listLength ≡ 0) × (listAfter ≡ listArea))
+
+-- ---- what is to be written, and how that ends
+
+-- The bytes fit the record area from a place on, the strings, packed, fit the list area, and no query passes the limit.
+pub record Fits (bytes strings : List ℕ) (within : Bool) (place : ℕ) (recordArea listArea : List ℕ) : Type 0 where
+  pub record-room : place + length bytes ≤ length recordArea
+  pub list-room : length strings ≤ length listArea
+  pub queries : within ≡ true
+
+-- Both are written: the lengths and the two areas.
+pub record Written (bytes strings : List ℕ) (place : ℕ) (recordArea listArea recordAfter listAfter : List ℕ) (recordLength listLength : ℕ) : Type 0 where
+  pub record-end : recordLength ≡ place + length bytes
+  pub list-end : listLength ≡ length strings
+  pub record-area : recordAfter ≡ putAt recordArea place bytes
+  pub list-area : listAfter ≡ putAt listArea 0 strings
+
+-- They do not fit: the lengths are 0 and the list area is as it was.
+pub record Refused (bytes strings : List ℕ) (within : Bool) (place : ℕ) (recordArea listArea recordAfter listAfter : List ℕ) (recordLength listLength : ℕ) : Type 0 where
+  pub no-room : Fits bytes strings within place recordArea listArea → ⊥
+  pub no-record : recordLength ≡ 0
+  pub no-list : listLength ≡ 0
+  pub record-area : length recordAfter ≡ length recordArea
+  pub list-area : listAfter ≡ listArea
+
+-- One of the two, with its number.
+abbrev pub Answered : List ℕ → List ℕ → Bool → ℕ → List ℕ → List ℕ → List ℕ → List ℕ → ℕ → ℕ → ℕ → Type 0
+Answered bytes strings within place recordArea listArea recordAfter listAfter number recordLength listLength =
+    ((number ≡ 0) × Fits bytes strings within place recordArea listArea × Written bytes strings place recordArea listArea recordAfter listAfter recordLength listLength)
+    ⊎ ((number ≡ 11) × Refused bytes strings within place recordArea listArea recordAfter listAfter recordLength listLength)
+
+-- ---- this level and those below it
+
+-- A search that has written its query for the prefixes qs, of k bits each, and has m levels to go below them.
+module _ (reaches : ℕ → Bool) (T : Bits → ℕ) where
+  -- what the record is yet to get
+  abbrev pub recordLeft : ℕ → ℕ → List Bits → List ℕ
+  recordLeft m k qs = totals T qs ++ recordFrom (isKept reaches T) T m k (select (isKept reaches T) qs)
+
+  -- what the list is to get
+  abbrev pub listLeft : ℕ → List Bits → List ℕ
+  listLeft m qs = packs (keptFrom (isKept reaches T) m (select (isKept reaches T) qs))
+
+  -- whether the queries to come are within the limit
+  abbrev pub queriesLeft : ℕ → List Bits → Bool
+  queriesLeft m qs = fitsFrom (isKept reaches T) m (select (isKept reaches T) qs)
+
+  -- how it ends
+  abbrev pub AnsweredBelow : ℕ → ℕ → List Bits → ℕ → List ℕ → List ℕ → List ℕ → List ℕ → ℕ → ℕ → ℕ → Type 0
+  AnsweredBelow m k qs = Answered (recordLeft m k qs) (listLeft m qs) (queriesLeft m qs)
+
+  -- how a whole search for strings of n bits ends
+  abbrev pub AnsweredAll : ℕ → List ℕ → List ℕ → List ℕ → List ℕ → ℕ → ℕ → ℕ → Type 0
+  AnsweredAll n =
+      Answered (recordFrom (isKept reaches T) T n 0 start) (packs (keptFrom (isKept reaches T) n start)) (fitsFrom (isKept reaches T) n start) 0

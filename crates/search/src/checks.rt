@@ -1,0 +1,105 @@
+// The causes of what is lent: 1 to 8.
+ghost use mathlib.Core.Path.{_≡_};
+ghost use mathlib.Core.Bool.{not, _||_};
+ghost use mathlib.Core.List.{[]};
+ghost use lib.ListN.{length, take};
+ghost use lib.Dec.{eqb};
+ghost use Rattle.calls.specs.Causes.{numberDue};
+ghost use Rattle.idpf.specs.Share.{wrongLengths, payloadTooLarge, spareBitsSet};
+ghost use Rattle.search.specs.Search.{lent, sameBytes, searchCauses};
+
+// Whether two slices hold the same bytes.
+fn same_bytes(a: &[u8], b: &[u8]) -> bool
+    ensures { λ r. ⌜ r ≡ sameBytes (now (a .entry)) (now (b .entry)) ⌝ }
+{
+    if a.len() != b.len() {
+        return false;
+    }
+    let mut i = 0;
+    while i < a.len() {
+        if a[i] != b[i] {
+            return false;
+        }
+        i += 1;
+    }
+    true
+}
+
+// Whether what is lent for either server has the wrong length, or the servers' seeds differ in count.
+fn lengths_wrong(n: u16, seeds0: &[u8], shares0: &[u8], seeds1: &[u8], shares1: &[u8]) -> bool
+    ensures { λ r. ⌜ r ≡ (wrongLengths n (now (seeds0 .entry)) (now (shares0 .entry)) || (wrongLengths n (now (seeds1 .entry)) (now (shares1 .entry)) || not (eqb (length (now (seeds0 .entry))) (length (now (seeds1 .entry)))))) ⌝ }
+{
+    if idpf::wrong_lengths(n, seeds0, shares0) {
+        return true;
+    }
+    if idpf::wrong_lengths(n, seeds1, shares1) {
+        return true;
+    }
+    seeds0.len() != seeds1.len()
+}
+
+// Whether a payload correction lent for either server is p or more.
+fn payload_too_large(n: u16, seeds0: &[u8], shares0: &[u8], seeds1: &[u8], shares1: &[u8]) -> bool
+    ensures { λ r. ⌜ r ≡ (payloadTooLarge n (now (seeds0 .entry)) (now (shares0 .entry)) || payloadTooLarge n (now (seeds1 .entry)) (now (shares1 .entry))) ⌝ }
+{
+    if !idpf::all_payloads_below(n, seeds0, shares0) {
+        return true;
+    }
+    !idpf::all_payloads_below(n, seeds1, shares1)
+}
+
+// Whether spare bits of a public share lent for either server are set.
+fn spare_bits_set(n: u16, seeds0: &[u8], shares0: &[u8], seeds1: &[u8], shares1: &[u8]) -> bool
+    ensures { λ r. ⌜ r ≡ (spareBitsSet n (now (seeds0 .entry)) (now (shares0 .entry)) || spareBitsSet n (now (seeds1 .entry)) (now (shares1 .entry))) ⌝ }
+{
+    if !idpf::all_spare_bits_zero(n, seeds0, shares0) {
+        return true;
+    }
+    !idpf::all_spare_bits_zero(n, seeds1, shares1)
+}
+
+// The number of the first of these causes that applies, or 0.
+pub(crate) fn first_cause(
+    n: u64,
+    t: u64,
+    expander: u64,
+    seeds0: &[u8],
+    shares0: &[u8],
+    seeds1: &[u8],
+    shares1: &[u8],
+) -> u64
+    ensures { λ r. ⌜ r ≡ numberDue (take 8 (searchCauses (lent n t expander (now (seeds0 .entry)) (now (shares0 .entry)) (now (seeds1 .entry)) (now (shares1 .entry)) [] []))) ⌝ }
+{
+    if n < 1 {
+        return 1;
+    }
+    if 256 < n {
+        return 1;
+    }
+    if t < 1 {
+        return 2;
+    }
+    if 65535 < t {
+        return 2;
+    }
+    if !expander::is_expander(expander) {
+        return 3;
+    }
+    let levels = n as u16;
+    if lengths_wrong(levels, seeds0, shares0, seeds1, shares1) {
+        return 4;
+    }
+    if 65535 < seeds0.len() / 16 {
+        return 5;
+    }
+    if payload_too_large(levels, seeds0, shares0, seeds1, shares1) {
+        return 6;
+    }
+    if spare_bits_set(levels, seeds0, shares0, seeds1, shares1) {
+        return 7;
+    }
+    if !same_bytes(shares0, shares1) {
+        return 8;
+    }
+    0
+}

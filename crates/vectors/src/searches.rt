@@ -1,0 +1,151 @@
+// Whole searches: examples D, E, F, G and J of the sheet under both expanders, and the bounds of n and t, as lines.
+use crate::keys::first_bytes;
+use bits::numbers::copy;
+use bits::numbers::read16;
+use bits::numbers::write_le8;
+use search::Found;
+
+// Standard output.
+const OUT: i32 = 1;
+
+// The first `end` of the bytes, after a space.
+fn bytes(s: &[u8], end: usize) {
+    io::write_all(OUT, b" ");
+    first_bytes(s, end);
+}
+
+// A number, after a space.
+fn number(x: u64) {
+    io::write_all(OUT, b" ");
+    io::print_decimal(OUT, x);
+}
+
+// The line of a search: its label, number, record and list.
+fn show(label: &[u8], found: Found, record: &[u8], list: &[u8]) {
+    io::write_all(OUT, b"search ");
+    io::write_all(OUT, label);
+    number(found.number);
+    bytes(record, found.record_length as usize);
+    bytes(list, found.list_length as usize);
+    io::write_all(OUT, b"\n");
+}
+
+// Root seeds of three reports, which differ in their first bytes.
+fn seeds(first: u64) -> [u8; 48] {
+    let mut s = [0u8; 48];
+    write_le8(&mut s, 0, first);
+    write_le8(&mut s, 16, first / 2);
+    write_le8(&mut s, 32, first / 3);
+    s
+}
+
+// The public share of report i, whose string has 2 bits, in its place.
+fn put_key(
+    expander: u64,
+    string: u8,
+    seed0: [u8; 16],
+    seed1: [u8; 16],
+    shares: &mut [u8],
+    at: usize,
+) {
+    let packed = [string];
+    let mut key = [0u8; 49];
+    idpf::make_key(2, expander, &packed, &seed0, &seed1, &mut key);
+    copy(&key, shares, at);
+}
+
+// The public shares of three reports.
+fn keys(expander: u64, strings: [u8; 3], seeds0: [u8; 48], seeds1: [u8; 48]) -> [u8; 147] {
+    let mut shares = [0u8; 147];
+    put_key(
+        expander,
+        strings[0],
+        read16(&seeds0, 0),
+        read16(&seeds1, 0),
+        &mut shares,
+        0,
+    );
+    put_key(
+        expander,
+        strings[1],
+        read16(&seeds0, 16),
+        read16(&seeds1, 16),
+        &mut shares,
+        49,
+    );
+    put_key(
+        expander,
+        strings[2],
+        read16(&seeds0, 32),
+        read16(&seeds1, 32),
+        &mut shares,
+        98,
+    );
+    shares
+}
+
+// A search of three strings of 2 bits with t = 2 and the given room for the record.
+fn example(label: &[u8], expander: u64, strings: [u8; 3], record: &mut [u8]) {
+    let seeds0 = seeds(0xfedcba9876543210);
+    let seeds1 = seeds(0x0123456789abcdef);
+    let shares = keys(expander, strings, seeds0, seeds1);
+    let mut list = [255u8; 1];
+    let found = search::search(
+        2,
+        2,
+        expander,
+        &seeds0,
+        &shares,
+        &seeds1,
+        &shares,
+        record,
+        &mut list,
+    );
+    show(label, found, record, &list);
+}
+
+// Examples D, E, F and J.
+pub(crate) fn examples(expander: u64) {
+    let mut record = [255u8; 48];
+    example(b"D", expander, [0x40u8, 0x40u8, 0xc0u8], &mut record);
+    example(b"E", expander, [0x40u8, 0x40u8, 0x80u8], &mut record);
+    example(b"F", expander, [0x40u8, 0x00u8, 0xc0u8], &mut record);
+    let mut short = [255u8; 47];
+    example(b"J", expander, [0x40u8, 0x40u8, 0xc0u8], &mut short);
+    io::write_all(OUT, b"search record area");
+    bytes(&short, 47);
+    io::write_all(OUT, b"\n");
+}
+
+// A search of no reports, with room for two totals.
+pub(crate) fn bounds(label: &[u8], n: u64, t: u64) {
+    let none = [0u8; 0];
+    let mut record = [255u8; 24];
+    let mut list = [255u8; 1];
+    let found = search::search(n, t, 2, &none, &none, &none, &none, &mut record, &mut list);
+    show(label, found, &record, &list);
+}
+
+// A search of one string of 256 bits, with t = 1: its number, the lengths of its record and list, and the list.
+pub(crate) fn longest(expander: u64, string: &[u8], seed0: &[u8], seed1: &[u8]) {
+    let mut share = [0u8; 6208];
+    idpf::make_key(256, expander, string, seed0, seed1, &mut share);
+    let mut record = [0u8; 14080];
+    let mut list = [0u8; 32];
+    let found = search::search(
+        256,
+        1,
+        expander,
+        seed0,
+        &share,
+        seed1,
+        &share,
+        &mut record,
+        &mut list,
+    );
+    io::write_all(OUT, b"search 256 bits");
+    number(found.number);
+    number(found.record_length);
+    bytes(&list, found.list_length as usize);
+    io::write_all(OUT, b"\n");
+}
