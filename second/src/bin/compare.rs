@@ -1,4 +1,5 @@
-//! Compares the library's calls with the second program's, byte by byte.
+//! Compares the library's calls with the second program's, byte by byte; of the search's answers
+//! for honest reports, also judges demands 2 and 3 by brute force.
 //!
 //! Arguments, all optional: seed=S calls=N spoil=K trace
 
@@ -22,6 +23,12 @@ mod make;
 #[allow(dead_code)]
 #[path = "compare/queries.rs"]
 mod queries;
+#[cfg(feature = "search")]
+#[path = "compare/search_cases.rs"]
+mod search_cases;
+#[cfg(feature = "search")]
+#[path = "compare/search_demands.rs"]
+mod search_demands;
 #[cfg(feature = "search")]
 #[path = "compare/searches.rs"]
 mod searches;
@@ -102,6 +109,15 @@ fn main() -> ExitCode {
         for kind in 0..4 {
             if !tally.met_kind(kind) {
                 println!("NOT MET: combine answering kind {kind}");
+                missing += 1;
+            }
+        }
+    }
+    if cfg!(feature = "search") {
+        for (pairs, name) in tally.all_pairs().into_iter().zip(["equal", "other"]) {
+            println!("pairs of collections with {name} records: {pairs}");
+            if pairs == 0 {
+                println!("NOT MET: two collections with {name} records");
                 missing += 1;
             }
         }

@@ -42,7 +42,7 @@ pub fn run(start: u64, count: usize, tally: &mut Tally) {
         compare(&mut rng, &plan, call, tally);
     }
     combine_cases::each(|name, wanted, call| {
-        compare(&mut rng, &Plan::fixed(name, wanted), call, tally);
+        compare(&mut rng, &Plan::fixed(name, &wanted), call, tally);
     });
 }
 

@@ -1,6 +1,6 @@
 //! Makers of inputs: honest, damaged and hostile.
 
-use second::field::P;
+use second::field::{read, reduce, P};
 use second::keys::{head_size, public_share_size};
 use second::query::{pack, packed_size};
 use second::rng::Rng;
@@ -127,12 +127,7 @@ pub struct Reports {
 
 /// Honest reports, many with strings in common.
 pub fn reports(rng: &mut Rng, n: usize, expander: u64, count: usize) -> Reports {
-    let mut made = Reports {
-        n,
-        strings: Vec::new(),
-        seeds: [Vec::new(), Vec::new()],
-        public: Vec::new(),
-    };
+    let mut made = Reports::none(n);
     for i in 0..count {
         let mut string = rng.bits(n);
         if i > 0 && rng.below(3) != 0 {
@@ -147,13 +142,26 @@ pub fn reports(rng: &mut Rng, n: usize, expander: u64, count: usize) -> Reports 
 }
 
 impl Reports {
-    fn add(&mut self, rng: &mut Rng, expander: u64, string: Vec<bool>) {
+    pub fn none(n: usize) -> Reports {
+        Reports {
+            n,
+            strings: Vec::new(),
+            seeds: [Vec::new(), Vec::new()],
+            public: Vec::new(),
+        }
+    }
+
+    pub fn add(&mut self, rng: &mut Rng, expander: u64, string: Vec<bool>) {
         let s0 = seed(rng);
         let s1 = if rng.below(6) == 0 {
             s0.clone()
         } else {
             seed(rng)
         };
+        self.add_with(expander, string, [s0, s1]);
+    }
+
+    pub fn add_with(&mut self, expander: u64, string: Vec<bool>, [s0, s1]: [Vec<u8>; 2]) {
         let mut share = vec![0; public_share_size(self.n)];
         let packed = pack(&string);
         let reply = second::key(self.n as u64, expander, &packed, &s0, &s1, &mut share);
@@ -179,6 +187,20 @@ pub fn set_payload(rng: &mut Rng, public: &mut [u8], n: usize, payload: u64) {
 /// A group number that is p or more.
 pub fn too_large(rng: &mut Rng) -> u64 {
     rng.pick(&[P, P, P + 1, u64::MAX])
+}
+
+/// Clears the spare bits and takes the payload corrections modulo p, so that all pass 6 and 7.
+pub fn pass_six_and_seven(public: &mut [u8], n: usize) {
+    for report in public.chunks_exact_mut(public_share_size(n)) {
+        if !n.is_multiple_of(4) {
+            report[n / 4] &= (1 << (n % 4 * 2)) - 1;
+        }
+        for level in 0..n {
+            let at = head_size(n) + 24 * level + 16;
+            let payload = reduce(read(&report[at..at + 8]));
+            report[at..at + 8].copy_from_slice(&payload.to_le_bytes());
+        }
+    }
 }
 
 /// Sets a spare bit in the control bits of one report, where there is one.

@@ -1,11 +1,15 @@
-//! Comparison of the whole search.
+//! Comparison of the whole search: random calls, the fixed ones of `search_cases`, and those of
+//! `search_demands`; number, lengths, both areas and the lent inputs.
 
 use crate::calls;
 use crate::make::*;
+use crate::search_cases;
+use crate::search_demands;
 use crate::tally::{shown, Outcome, Plan, Space, Tally};
 use second::field::P;
 use second::keys::public_share_size;
 use second::rng::Rng;
+use std::hint::black_box;
 
 const DAMAGES: [&str; 19] = [
     "n",
@@ -30,19 +34,33 @@ const DAMAGES: [&str; 19] = [
 ];
 
 #[derive(Clone)]
-struct Call {
-    n: u64,
-    t: u64,
-    expander: u64,
-    seeds: [Vec<u8>; 2],
-    public: [Vec<u8>; 2],
-    record_room: usize,
-    list_room: usize,
+pub struct Call {
+    pub n: u64,
+    pub t: u64,
+    pub expander: u64,
+    pub seeds: [Vec<u8>; 2],
+    pub public: [Vec<u8>; 2],
+    pub record_room: usize,
+    pub list_room: usize,
 }
 
 impl Call {
-    fn search(&self, with: Search, record: &mut [u8], list: &mut [u8]) -> second::Found {
-        with(
+    /// The search of these reports, each server with its own copy, and no room yet.
+    pub fn of(reports: Reports, t: u64, expander: u64) -> Call {
+        Call {
+            n: reports.n as u64,
+            t,
+            expander,
+            seeds: reports.seeds,
+            public: [reports.public.clone(), reports.public],
+            record_room: 0,
+            list_room: 0,
+        }
+    }
+
+    /// The second program's answer with areas of these sizes.
+    pub fn ours(&self, record_room: usize, list_room: usize) -> second::Found {
+        second::search(
             self.n,
             self.t,
             self.expander,
@@ -50,13 +68,17 @@ impl Call {
             &self.public[0],
             &self.seeds[1],
             &self.public[1],
-            record,
-            list,
+            &mut vec![0; record_room],
+            &mut vec![0; list_room],
         )
     }
 }
 
 type Search = fn(u64, u64, u64, &[u8], &[u8], &[u8], &[u8], &mut [u8], &mut [u8]) -> second::Found;
+
+/// The spaces of an outcome after those of the four lent inputs.
+pub const RECORD: usize = 4;
+pub const LIST: usize = 5;
 
 pub fn run(start: u64, count: usize, tally: &mut Tally) {
     let mut rng = Rng::new(start ^ 5);
@@ -67,24 +89,16 @@ pub fn run(start: u64, count: usize, tally: &mut Tally) {
         } else {
             damaged(&mut rng, &plan)
         };
-        compare(&mut rng, &plan, call, tally);
+        compare(&mut rng, &plan, &call, tally);
     }
-    for (name, call) in specials(&mut rng) {
-        compare(&mut rng, &Plan::special(name), call, tally);
-    }
-}
-
-fn honest(rng: &mut Rng, n: usize, t: u64, expander: u64, count: usize) -> Call {
-    let reports = reports(rng, n, expander, count);
-    Call {
-        n: n as u64,
-        t,
-        expander,
-        seeds: reports.seeds,
-        public: [reports.public.clone(), reports.public],
-        record_room: 1 << 17,
-        list_room: 1 << 12,
-    }
+    search_cases::each(|name, wanted, call| {
+        let plan = Plan::fixed(name, &wanted.numbers());
+        let theirs = compare(&mut rng, &plan, &call, tally);
+        if !wanted.written(&theirs) {
+            tally.fault(&format!("fixed search, {name}: another record or list"));
+        }
+    });
+    search_demands::run(&mut rng, tally);
 }
 
 fn damaged(rng: &mut Rng, plan: &Plan) -> Call {
@@ -98,18 +112,20 @@ fn damaged(rng: &mut Rng, plan: &Plan) -> Call {
         n = rng.pick(&[31, 32, 255, 256]);
         count = count.min(1);
         expander = if n > 200 { 2 } else { expander };
+    } else if !explosive && n < 8 && rng.below(40) == 0 {
+        count = 24 + rng.below(13);
     }
-    let mut t = rng.pick(&[1, 1, 2, 2, 3, 65_535]);
+    let all = count.max(1) as u64;
+    let mut t = rng.pick(&[1, 1, 2, 2, 3, all, all + 1, 65_535]);
     if plan.has("list room") {
         t = 1;
     }
     let bits = n as usize;
-    let mut call = honest(rng, bits, t, expander, count);
+    let mut call = Call::of(reports(rng, bits, expander, count), t, expander);
     for damage in plan.damages.iter().rev() {
         spoil(rng, &mut call, damage, bits);
     }
-    let (mut record, mut list) = (vec![0; call.record_room], vec![0; call.list_room]);
-    let found = call.search(second::search, &mut record, &mut list);
+    let found = call.ours(1 << 17, 1 << 12);
     let (mut record_size, mut list_size) =
         (found.record_length as usize, found.list_length as usize);
     if found.number != 0 {
@@ -176,7 +192,10 @@ fn hostile(rng: &mut Rng) -> Call {
     let n = rng.pick(&[1, 2, 3, 4, 8, 9, 12]);
     let count = rng.below(4);
     let size = public_share_size(n as usize);
-    let public = rng.bytes(size * count);
+    let mut public = rng.bytes(size * count);
+    if rng.below(8) != 0 {
+        pass_six_and_seven(&mut public, n as usize);
+    }
     let mut call = Call {
         n,
         t: good_t(rng),
@@ -196,49 +215,8 @@ fn hostile(rng: &mut Rng) -> Call {
     call
 }
 
-/// Calls at the largest counts and past the largest query.
-fn specials(rng: &mut Rng) -> Vec<(&'static str, Call)> {
-    let mut calls = Vec::new();
-    let few = honest(rng, 1, 1, 2, 5);
-    let many = |count: usize, t: u64| {
-        let mut call = few.clone();
-        call.t = t;
-        for b in 0..2 {
-            call.seeds[b] = few.seeds[b].repeat(13_108)[..16 * count].to_vec();
-            call.public[b] = few.public[b].repeat(13_108)[..25 * count].to_vec();
-        }
-        (call.record_room, call.list_room) = (24, 2);
-        call
-    };
-    for t in [1, 13_107, 26_214, 65_535] {
-        calls.push(("65535 reports", many(65_535, t)));
-    }
-    for other in 0..9 {
-        let mut call = many(65_536, 1);
-        match other {
-            0 => {}
-            1 => call.t = 0,
-            2 => call.seeds[1].truncate(16),
-            3 => set_payload(rng, &mut call.public[1], 1, P),
-            4 => set_spare(rng, &mut call.public[0], 1),
-            5 => call.public[0].truncate(25 * 65_535),
-            6 => call.public[1].push(0),
-            7 => flip(rng, &mut call.public[1]),
-            _ => call.record_room = 0,
-        }
-        calls.push(("65536 reports", call));
-    }
-    calls.push(("n 256 with AES", honest(rng, 256, 1, 1, 1)));
-    for (n, t) in [(17, 1), (24, 65_535)] {
-        let mut call = honest(rng, n, t, 2, 1);
-        call.seeds = [rng.bytes(16), rng.bytes(16)];
-        (call.record_room, call.list_room) = (4_000_000, 1000);
-        calls.push(("wrong seeds and much room", call));
-    }
-    calls
-}
-
-fn compare(rng: &mut Rng, plan: &Plan, call: Call, tally: &mut Tally) {
+/// Compares one call and gives the library's outcome.
+pub fn compare(rng: &mut Rng, plan: &Plan, call: &Call, tally: &mut Tally) -> Outcome {
     let inputs = format!("n={} t={} expander={} ", call.n, call.t, call.expander)
         + &shown("seeds0", &call.seeds[0])
         + &shown("public_shares0", &call.public[0])
@@ -246,14 +224,57 @@ fn compare(rng: &mut Rng, plan: &Plan, call: Call, tally: &mut Tally) {
         + &shown("public_shares1", &call.public[1]);
     tally.before("search", plan, &inputs);
     let salt = rng.number();
+    let record = || Space::new(call.record_room, salt);
+    let list = || Space::new(call.list_room, salt >> 8);
     let [ours, theirs] = [second::search as Search, calls::search as Search].map(|with| {
-        let mut record = Space::new(call.record_room, salt);
-        let mut list = Space::new(call.list_room, salt >> 8);
-        let found = call.search(with, record.lent(), list.lent());
+        let lent = [
+            &call.seeds[0],
+            &call.public[0],
+            &call.seeds[1],
+            &call.public[1],
+        ];
+        let lent = black_box(lent.map(|bytes| Space::holding(bytes)));
+        let [seeds0, public0, seeds1, public1] = lent.each_ref().map(|s| s.first(u64::MAX));
+        let (mut record, mut list) = (record(), list());
+        let found = with(
+            call.n,
+            call.t,
+            call.expander,
+            seeds0,
+            public0,
+            seeds1,
+            public1,
+            record.lent(),
+            list.lent(),
+        );
+        let spaces = lent.into_iter().chain([record, list]).collect();
         Outcome {
             numbers: vec![found.number, found.record_length, found.list_length],
-            spaces: vec![record, list],
+            spaces: black_box(spaces),
         }
     });
-    tally.judge("search", plan, ours, theirs, &inputs);
+    let theirs = tally.judge("search", plan, ours, theirs, &inputs);
+    if !left(&theirs, record(), list()) {
+        tally.fault("search: the areas are not left as its number says");
+    }
+    theirs
+}
+
+/// Whether the areas, given as before the call, are left as the number and lengths say.
+fn left(theirs: &Outcome, mut record: Space, mut list: Space) -> bool {
+    let [number, lengths @ ..] = &theirs.numbers[..] else {
+        return false;
+    };
+    if *number == 11 {
+        record.lent().fill(0);
+    }
+    [&mut record, &mut list]
+        .into_iter()
+        .zip(lengths)
+        .zip(&theirs.spaces[RECORD..])
+        .all(|((before, length), after)| {
+            let written = after.first(*length);
+            before.lent()[..written.len()].copy_from_slice(written);
+            (*number == 0 || *length == 0) && written.len() as u64 == *length && before.same(after)
+        })
 }

@@ -21,8 +21,25 @@ impl Space {
         }
     }
 
+    /// A space that holds these bytes before the call.
+    pub fn holding(bytes: &[u8]) -> Space {
+        let mut space = Space::new(bytes.len(), 0);
+        space.lent().copy_from_slice(bytes);
+        space
+    }
+
     pub fn lent(&mut self) -> &mut [u8] {
         &mut self.bytes[..self.lent]
+    }
+
+    /// The first bytes of the space, all where there are fewer.
+    pub fn first(&self, length: u64) -> &[u8] {
+        let length = usize::try_from(length).unwrap_or(self.lent);
+        &self.bytes[..length.min(self.lent)]
+    }
+
+    pub fn same(&self, other: &Space) -> bool {
+        self.bytes == other.bytes
     }
 }
 
@@ -36,8 +53,8 @@ pub struct Outcome {
 pub struct Plan {
     pub kind: &'static str,
     pub damages: Vec<&'static str>,
-    /// The numbers that the call must return, where they are known beforehand.
-    pub wanted: Option<[u64; 3]>,
+    /// The first numbers that the call must return, as far as they are known beforehand.
+    pub wanted: Vec<u64>,
 }
 
 impl Plan {
@@ -63,7 +80,7 @@ impl Plan {
         Plan {
             kind,
             damages,
-            wanted: None,
+            wanted: Vec::new(),
         }
     }
 
@@ -71,15 +88,24 @@ impl Plan {
         Plan {
             kind: "special",
             damages: vec![name],
-            wanted: None,
+            wanted: Vec::new(),
         }
     }
 
-    pub fn fixed(name: &'static str, wanted: [u64; 3]) -> Plan {
+    pub fn fixed(name: &'static str, wanted: &[u64]) -> Plan {
         Plan {
             kind: "fixed",
             damages: vec![name],
-            wanted: Some(wanted),
+            wanted: wanted.to_vec(),
+        }
+    }
+
+    /// The plan of an honest collection whose answer is then judged by brute force.
+    pub fn counted(name: &'static str) -> Plan {
+        Plan {
+            kind: "counted",
+            damages: vec![name],
+            wanted: vec![0],
         }
     }
 
@@ -103,6 +129,8 @@ pub struct Tally {
     kinds: BTreeMap<(&'static str, &'static str), u64>,
     aims: BTreeMap<(&'static str, &'static str), u64>,
     answers: BTreeMap<u64, u64>,
+    /// Pairs of collections of each kind with equal records and with others.
+    pairs: BTreeMap<&'static str, [u64; 2]>,
 }
 
 impl Tally {
@@ -116,7 +144,7 @@ impl Tally {
         }
     }
 
-    /// Compares one call's outcomes in every number and every byte.
+    /// Compares one call's outcomes in every number and every byte; gives the second back.
     pub fn judge(
         &mut self,
         call: &'static str,
@@ -124,7 +152,7 @@ impl Tally {
         ours: Outcome,
         mut theirs: Outcome,
         inputs: &str,
-    ) {
+    ) -> Outcome {
         if self.spoil == Some(self.calls) {
             match theirs.spaces.last_mut().and_then(|s| s.bytes.last_mut()) {
                 Some(byte) => *byte ^= 1,
@@ -135,8 +163,10 @@ impl Tally {
         if ours.numbers != theirs.numbers {
             text += &format!(" ours {:?} theirs {:?};", ours.numbers, theirs.numbers);
         }
-        if let Some(wanted) = plan.wanted.filter(|wanted| ours.numbers != wanted) {
-            text += &format!(" ours {:?} wanted {wanted:?};", ours.numbers);
+        for (whose, numbers) in [("ours", &ours.numbers), ("theirs", &theirs.numbers)] {
+            if !numbers.starts_with(&plan.wanted) {
+                text += &format!(" {whose} {numbers:?} wanted {:?};", plan.wanted);
+            }
         }
         for (i, (a, b)) in ours.spaces.iter().zip(&theirs.spaces).enumerate() {
             if let Some(at) = (0..a.bytes.len()).find(|&at| a.bytes[at] != b.bytes[at]) {
@@ -164,6 +194,31 @@ impl Tally {
         if call == "combine" {
             *self.answers.entry(ours.numbers[1]).or_default() += 1;
         }
+        theirs
+    }
+
+    /// Counts something else that must hold of the call before and does not.
+    pub fn fault(&mut self, text: &str) {
+        self.differences += 1;
+        if self.differences <= 10 {
+            println!("FAILS after {} calls: {text}", self.calls);
+        }
+    }
+
+    /// Counts two collections, and a fault unless their records are equal as they should be.
+    pub fn pair(&mut self, kind: &'static str, equal: bool, should: bool) {
+        self.pairs.entry(kind).or_default()[!equal as usize] += 1;
+        if equal != should {
+            self.fault(&format!(
+                "demand 3, {kind}: records equal {equal}, cut strings rearranged {should}"
+            ));
+        }
+    }
+
+    /// How many pairs of collections had equal records and how many others.
+    pub fn all_pairs(&self) -> [u64; 2] {
+        let sum = |at: usize| self.pairs.values().map(|both| both[at]).sum();
+        [sum(0), sum(1)]
     }
 
     pub fn met(&self, call: &'static str, number: u64) -> bool {
@@ -189,6 +244,9 @@ impl Tally {
         }
         for (kind, count) in &self.answers {
             println!("  combine answering kind {kind}: {count}");
+        }
+        for (kind, [equal, other]) in &self.pairs {
+            println!("  pairs of collections, {kind}: {equal} equal records, {other} not");
         }
     }
 }

@@ -1,0 +1,175 @@
+//! Demands 2 and 3 by brute force on the library's answers for honest collections.
+
+use crate::make::*;
+use crate::searches::{compare, Call, LIST, RECORD};
+use crate::tally::{Plan, Tally};
+use second::brute;
+use second::query::{pack, write};
+use second::rng::Rng;
+
+/// How a second collection comes from the first; seeds and expander are drawn again.
+const KINDS: [&str; 8] = [
+    "the same strings",
+    "rearranged",
+    "other below the cuts",
+    "one string's tail other",
+    "equal sets, other multiplicities",
+    "one bit other",
+    "one report more or less",
+    "any other",
+];
+
+/// How many random pairs of each kind.
+const PAIRS: usize = 60;
+
+type Strings = Vec<Vec<bool>>;
+
+pub fn run(rng: &mut Rng, tally: &mut Tally) {
+    for i in 0..PAIRS * KINDS.len() {
+        let kind = KINDS[i % KINDS.len()];
+        let n = if i < 8 { 33 } else { 1 + rng.below(12) };
+        let t = rng.pick(&[1, 2, 2, 3, 3, 4]);
+        let count = rng.below(10);
+        let one = strings(rng, n, count);
+        let other = other(rng, n, t, &one, kind);
+        let records = [&one, &other].map(|strings| record(rng, tally, n, t, strings, kind));
+        let same = brute::cut(&one, t) == brute::cut(&other, t);
+        tally.pair(kind, records[0] == records[1], same);
+    }
+    for (n, most) in [(1, 5), (2, 4), (3, 3)] {
+        for t in 1..5 {
+            every_small(rng, tally, n, t, most);
+        }
+    }
+}
+
+/// Every two collections of at most so many strings of n bits.
+fn every_small(rng: &mut Rng, tally: &mut Tally, n: usize, t: u64, most: u32) {
+    let mut met: Vec<(Strings, Vec<u8>)> = Vec::new();
+    for count in 0..=most {
+        for code in 0..1usize << (n * count as usize) {
+            let bit = |i: usize, at: usize| code >> (n * i + at) & 1 == 1;
+            let strings: Strings = (0..count as usize)
+                .map(|i| (0..n).map(|at| bit(i, at)).collect())
+                .collect();
+            let record = record(rng, tally, n, t, &strings, "every small one");
+            met.push((brute::cut(&strings, t), record));
+        }
+    }
+    for (i, (cut, record)) in met.iter().enumerate() {
+        for (other_cut, other) in &met[..i] {
+            tally.pair("every two small ones", record == other, cut == other_cut);
+        }
+    }
+}
+
+/// Strings with many in common.
+fn strings(rng: &mut Rng, n: usize, count: usize) -> Strings {
+    let mut all: Strings = Vec::new();
+    for i in 0..count {
+        let mut string = rng.bits(n);
+        if i > 0 && rng.below(4) != 0 {
+            string = all[rng.below(i)].clone();
+            for bit in string.iter_mut().skip(rng.below(2 * n)) {
+                *bit = rng.coin();
+            }
+        }
+        all.push(string);
+    }
+    all
+}
+
+/// A second collection of a kind.
+fn other(rng: &mut Rng, n: usize, t: u64, one: &Strings, kind: &str) -> Strings {
+    let mut all = one.clone();
+    let count = all.len();
+    match kind {
+        "the same strings" => return all,
+        "other below the cuts" => {
+            all = brute::cut(one, t);
+            for cut in &mut all {
+                cut.extend(rng.bits(n - cut.len()));
+            }
+        }
+        "one string's tail other" if count > 0 => {
+            let string = &mut all[rng.below(count)];
+            for bit in string.iter_mut().skip(rng.below(n)) {
+                *bit = rng.coin();
+            }
+        }
+        "equal sets, other multiplicities" if count > 0 => {
+            // Each string once, then any of them until the count is reached.
+            all.sort();
+            all.dedup();
+            let different = all.len();
+            while all.len() < count {
+                all.push(all[rng.below(different)].clone());
+            }
+        }
+        "one bit other" if count > 0 => {
+            let bit = rng.below(n);
+            all[rng.below(count)][bit] ^= true;
+        }
+        "one report more or less" => {
+            if count > 0 && rng.coin() {
+                all.remove(rng.below(count));
+            } else {
+                let any = rng.bits(n);
+                all.push(one.first().cloned().unwrap_or(any));
+            }
+        }
+        "any other" => all = strings(rng, n, count),
+        _ => {}
+    }
+    for i in (1..all.len()).rev() {
+        all.swap(i, rng.below(i + 1));
+    }
+    all
+}
+
+/// The library's record of honest reports of the strings, after demand 2 was judged.
+fn record(
+    rng: &mut Rng,
+    tally: &mut Tally,
+    n: usize,
+    t: u64,
+    strings: &Strings,
+    kind: &'static str,
+) -> Vec<u8> {
+    let expander = good_expander(rng);
+    let mut reports = Reports::none(n);
+    for string in strings {
+        reports.add(rng, expander, string.clone());
+    }
+    let queried = queried(strings, n, t);
+    let heavy: Vec<u8> = brute::heavy(strings, t)
+        .iter()
+        .flat_map(|string| pack(string))
+        .collect();
+    let mut call = Call::of(reports, t, expander);
+    call.record_room = room(rng, queried.len());
+    call.list_room = room(rng, heavy.len());
+    let theirs = compare(rng, &Plan::counted(kind), &call, tally);
+    let record = theirs.spaces[RECORD].first(theirs.numbers[1]).to_vec();
+    if theirs.spaces[LIST].first(theirs.numbers[2]) != heavy {
+        tally.fault(&format!(
+            "demand 2, {kind}: the list is not the heavy strings"
+        ));
+    }
+    if record != queried {
+        tally.fault(&format!("demand 2, {kind}: the record is not the counts"));
+    }
+    record
+}
+
+/// The record of the counted prefixes.
+fn queried(strings: &Strings, n: usize, t: u64) -> Vec<u8> {
+    let counted = brute::queried(strings, n, t);
+    let mut record = Vec::new();
+    for level in counted.chunk_by(|(one, _), (next, _)| one.len() == next.len()) {
+        let prefixes: Vec<Vec<u8>> = level.iter().map(|(prefix, _)| pack(prefix)).collect();
+        record.extend(write(level[0].0.len(), &prefixes));
+        record.extend(level.iter().flat_map(|(_, total)| total.to_le_bytes()));
+    }
+    record
+}
