@@ -171,7 +171,9 @@ impl Collection {
             if let Some(i) = common {
                 packed.iter_mut().for_each(|byte| *byte = 23 * i as u8);
             }
-            packed[n / 8..].iter_mut().for_each(|byte| *byte &= !(255 >> (n % 8)));
+            packed[n / 8..]
+                .iter_mut()
+                .for_each(|byte| *byte &= !(255 >> (n % 8)));
             packed
         };
         let mut made = Collection {
@@ -217,8 +219,7 @@ impl Collection {
     /// The plain search's record and list.
     fn plain(&self, block: fn(&Seed, u64) -> Seed, t: u64) -> (Vec<u8>, Vec<u8>) {
         let (mut record, mut list) = (vec![0u8; 1 << 20], vec![0u8; 1 << 16]);
-        let lengths =
-            plain_search::search(block, self.n, t, self.lent(), &mut record, &mut list);
+        let lengths = plain_search::search(block, self.n, t, self.lent(), &mut record, &mut list);
         let (record_length, list_length) = lengths.expect("accepted");
         record.truncate(record_length);
         list.truncate(list_length);
@@ -238,7 +239,9 @@ fn searching(check: bool) {
         &mut [
             Subject::new("proved", |_| collection.proved(t)),
             Subject::new("plain Rust, same AES", |_| collection.plain(same_block, t)),
-            Subject::new("plain Rust, plain AES", |_| collection.plain(plain_block, t)),
+            Subject::new("plain Rust, plain AES", |_| {
+                collection.plain(plain_block, t)
+            }),
         ],
     );
     if check {
@@ -250,7 +253,10 @@ fn searching(check: bool) {
         let start = std::time::Instant::now();
         let (record, _) = collection.proved(t);
         let ms = start.elapsed().as_millis();
-        println!("  n = {n:>3}, {count:>5} reports: {ms:>7} ms, a record of {} bytes", record.len());
+        println!(
+            "  n = {n:>3}, {count:>5} reports: {ms:>7} ms, a record of {} bytes",
+            record.len()
+        );
     }
 }
 

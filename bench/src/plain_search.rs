@@ -26,7 +26,9 @@ impl<'a> Lent<'a> {
         let whole = self.seeds.len() % 16 == 0 && self.public_shares.len() % length == 0;
         whole
             && self.seeds.len() / 16 == self.public_shares.len() / length
-            && self.reports(n).all(|(_, p)| plain_idpf::is_public_share(n, p))
+            && self
+                .reports(n)
+                .all(|(_, p)| plain_idpf::is_public_share(n, p))
     }
 }
 
