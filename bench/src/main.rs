@@ -198,7 +198,7 @@ impl Collection {
         made
     }
 
-    fn lent(&self) -> [plain_search::Lent; 2] {
+    fn lent(&self) -> [plain_search::Lent<'_>; 2] {
         [0, 1].map(|server| plain_search::Lent {
             seeds: &self.seeds[server],
             public_shares: &self.public_shares,
