@@ -1,0 +1,222 @@
+// Vembuzsa's functions for C and C++: the calls of the proved library libcapi.a.
+//
+// An installation makes the public share of its string with tally_key and gives each server one of its two seeds and the public
+// share. For a query each server makes its share with tally_share. A collector turns two shares into the next query or the list with
+// tally_combine. tally_search does the whole search where one program holds both servers' reports.
+//
+// What every call does:
+// - It reads and writes only what it is lent: each area is a pointer and a length in bytes.
+// - No pointer may be null, not even with length 0.
+// - An area that is written may not overlap any other area of the same call; areas that are only read may overlap each other.
+// - It keeps nothing: no allocation, no state between calls, so calls from several threads are independent.
+// - It returns number 0 on success, with how many bytes were written from the beginning of an area; bytes past them are unchanged.
+// - It returns the lowest number of the table below that applies, with lengths 0, and every lent byte is then unchanged; with one
+//   exception: when tally_search refuses with 11, every byte of the record area becomes zero.
+// - It takes stack for each bit of n: a search with n = 256 was measured at 194 KiB on x86-64, so a thread should have 256 KiB or more.
+//
+//  number | cause of refusal
+//  -------+---------------------------------------------------------------------------------------------------------------
+//       1 | The string length n is not from 1 to 256.
+//       2 | The threshold t is not from 1 to 65,535.
+//       3 | The expander is not 1 or 2.
+//       4 | A lent input has the wrong length, or seeds and public shares disagree in count.
+//       5 | There are more than 65,535 reports.
+//       6 | A group number, in a public share or in a share, is p or more.
+//       7 | Spare bits are set in a string or in a public share.
+//       8 | The two servers' public shares differ.
+//       9 | The query is not as laid out below, or is outside its limits, or its prefixes are longer than n.
+//      11 | What is to be written would not fit the lent space, or a next query would pass 131,070 prefixes.
+//
+// Number 10 is that of an exam text, and none of these functions returns it.
+//
+// How bytes are laid out:
+// - A string of n bits, or a prefix, is packed in the fewest bytes, first bit highest, spare bits zero.
+// - A group number is below p = 2^64 - 2^32 + 1 and takes 8 bytes, least significant first.
+// - A seed has 16 bytes; several seeds stand one after the other, and so do several public shares, in the same order of reports.
+// - A query is 2 bytes with the prefix length minus one, big-endian; 4 bytes with the count, big-endian; then the prefixes, strictly
+//   ascending.
+// - A share is one group number for each prefix of its query, in order.
+// - A record is each query followed by its totals, one group number for each prefix.
+// - A list is the heavy strings, those that at least t reports hold, packed, ascending.
+
+#ifndef TALLY_H
+#define TALLY_H
+
+#include <stdbool.h>
+#include <stddef.h>
+#include <stdint.h>
+
+#ifdef __cplusplus
+extern "C" {
+#endif
+
+// ---- numbers
+
+// The causes of refusal, and success.
+#define TALLY_OK 0
+#define TALLY_REFUSED_STRING_LENGTH 1
+#define TALLY_REFUSED_THRESHOLD 2
+#define TALLY_REFUSED_EXPANDER 3
+#define TALLY_REFUSED_INPUT_LENGTH 4
+#define TALLY_REFUSED_TOO_MANY_REPORTS 5
+#define TALLY_REFUSED_GROUP_NUMBER 6
+#define TALLY_REFUSED_SPARE_BITS 7
+#define TALLY_REFUSED_PUBLIC_SHARES_DIFFER 8
+#define TALLY_REFUSED_QUERY 9
+#define TALLY_REFUSED_SPACE 11
+
+// The expanders: AES-128, and the classroom's, which hides nothing.
+#define TALLY_EXPANDER_AES 1
+#define TALLY_EXPANDER_CLASSROOM 2
+
+// The kinds of answer of tally_combine; a refusal has none of the other three.
+#define TALLY_KIND_REFUSED 0
+#define TALLY_KIND_NEXT 1
+#define TALLY_KIND_LIST 2
+#define TALLY_KIND_ENDED 3
+
+// The bounds; the least string length, threshold and number of prefixes is 1, the least number of reports 0.
+#define TALLY_BITS_MOST 256
+#define TALLY_THRESHOLD_MOST 65535
+#define TALLY_REPORTS_MOST 65535
+#define TALLY_PREFIXES_MOST 131070
+
+// The order p of the group.
+#define TALLY_GROUP_ORDER UINT64_C(18446744069414584321)
+
+// ---- lengths in bytes
+
+// A seed, a block, and a group number.
+#define TALLY_SEED_LENGTH 16
+#define TALLY_BLOCK_LENGTH 16
+#define TALLY_NUMBER_LENGTH 8
+
+// A packed string or prefix of that many bits.
+#define TALLY_PACKED_LENGTH(bits) (((size_t)(bits) + 7) / 8)
+
+// The public share of one report of n bits.
+#define TALLY_PUBLIC_SHARE_LENGTH(n) (((size_t)(n) + 3) / 4 + 24 * (size_t)(n))
+
+// A query of count prefixes of that many bits.
+#define TALLY_QUERY_LENGTH(bits, count) (6 + (size_t)(count) * TALLY_PACKED_LENGTH(bits))
+
+// A share, or the totals, for a query of count prefixes.
+#define TALLY_SHARE_LENGTH(count) (8 * (size_t)(count))
+
+// The first query of every search, `0` and `1`, as the initializer of an array of 8 bytes.
+#define TALLY_FIRST_QUERY {0x00, 0x00, 0x00, 0x00, 0x00, 0x02, 0x00, 0x80}
+
+// Space that is enough for the record of a search over honest reports: for each prefix length k from 1 to n, a heading of 6 bytes and
+// TALLY_PACKED_LENGTH(k) + 8 bytes for each prefix, of which there are 2 at length 1 and then at most min(2^k, 2 * floor(reports / t)), and
+// no heading where there are none. It is 0 where n, t or the number of reports is outside its bounds, which the search refuses.
+static inline size_t tally_record_space(uint64_t n, uint64_t t, uint64_t reports)
+{
+    size_t space = 0;
+    uint64_t k;
+    if (n < 1 || TALLY_BITS_MOST < n || t < 1 || TALLY_THRESHOLD_MOST < t || TALLY_REPORTS_MOST < reports)
+        return 0;
+    for (k = 1; k <= n; k++) {
+        uint64_t count = k == 1 ? 2 : 2 * (reports / t);
+        if (k < 17 && (UINT64_C(1) << k) < count)
+            count = UINT64_C(1) << k;
+        if (0 < count)
+            space += TALLY_QUERY_LENGTH(k, count) + TALLY_SHARE_LENGTH(count);
+    }
+    return space;
+}
+
+// Space that is enough for the list of a search over honest reports: floor(reports / t) packed strings; 0 where an argument is outside its
+// bounds.
+static inline size_t tally_list_space(uint64_t n, uint64_t t, uint64_t reports)
+{
+    if (n < 1 || TALLY_BITS_MOST < n || t < 1 || TALLY_THRESHOLD_MOST < t || TALLY_REPORTS_MOST < reports)
+        return 0;
+    return (size_t)(reports / t) * TALLY_PACKED_LENGTH(n);
+}
+
+// ---- calls
+
+// What most calls return: the number of the cause that refused, or 0; and how many bytes were written.
+typedef struct tally_reply {
+    uint64_t number;
+    uint64_t length;
+} tally_reply;
+
+// What tally_combine returns: the number; the kind of answer; and how many bytes were written, 0 where the search ended.
+typedef struct tally_combine_reply {
+    uint64_t number;
+    uint64_t kind;
+    uint64_t length;
+} tally_combine_reply;
+
+// What tally_search returns: the number; and how many bytes of the record area and of the list area were written.
+typedef struct tally_found {
+    uint64_t number;
+    uint64_t record_length;
+    uint64_t list_length;
+} tally_found;
+
+// Writes block j of a seed under an expander.
+// Reads: the seed, 16 bytes.
+// Writes: 16 bytes of block.
+// Refuses with 3; 4, the seed is not 16 bytes; 11, block has fewer than 16 bytes.
+tally_reply tally_block(uint64_t expander,
+                        const uint8_t *seed, size_t seed_length,
+                        uint64_t j,
+                        uint8_t *block, size_t block_length);
+
+// Writes the public share of a string of n bits under two root seeds, which must come from a generator fit for keys.
+// Reads: the packed string, TALLY_PACKED_LENGTH(n) bytes; the seed of server 0 and that of server 1, 16 bytes each.
+// Writes: TALLY_PUBLIC_SHARE_LENGTH(n) bytes of public_share, that is ceil(n / 4) + 24 * n.
+// Refuses with 1; 3; 4, the string or a seed has another length; 7, spare bits of the string are set; 11.
+tally_reply tally_key(uint64_t n, uint64_t expander,
+                      const uint8_t *string, size_t string_length,
+                      const uint8_t *seed0, size_t seed0_length,
+                      const uint8_t *seed1, size_t seed1_length,
+                      uint8_t *public_share, size_t public_share_length);
+
+// Writes a server's share for a query: for each prefix in order the sum over all lent reports. The server is false for 0, true for 1.
+// Reads: the server's own seeds, 16 bytes a report; the public shares, TALLY_PUBLIC_SHARE_LENGTH(n) bytes a report; the query.
+// Writes: TALLY_SHARE_LENGTH(count) bytes of share, that is 8 for each prefix of the query.
+// Refuses with 1; 3; 4, seeds or public shares are not whole or disagree in count; 5; 6; 7; 9; 11. Numbers 6 and 7 look at all levels of
+// every lent public share.
+tally_reply tally_share(uint64_t n, uint64_t expander, bool server,
+                        const uint8_t *seeds, size_t seeds_length,
+                        const uint8_t *public_shares, size_t public_shares_length,
+                        const uint8_t *query, size_t query_length,
+                        uint8_t *share, size_t share_length);
+
+// Turns two servers' shares for a query into an answer. A prefix is kept when its total, the sum of its two numbers modulo p, is at least t.
+// Kinds: TALLY_KIND_NEXT, the next query with both children of each kept prefix; TALLY_KIND_LIST, at length n the list of kept strings,
+// empty or not; TALLY_KIND_ENDED, before length n where nothing is kept; TALLY_KIND_REFUSED.
+// Reads: the query; the share of server 0 and that of server 1, 8 bytes for each prefix.
+// Writes, into out, where the query has prefixes of k bits and `kept` of them are kept: TALLY_QUERY_LENGTH(k + 1, 2 * kept) bytes for the next
+// query, kept * TALLY_PACKED_LENGTH(n) for the list, none where the search ended.
+// Refuses with 1; 2; 4, the shares' lengths differ, are no multiple of 8, or are not 8 for each prefix of a query that passes 9; 6; 9; 11,
+// also where more than 65,535 prefixes are kept before length n.
+tally_combine_reply tally_combine(uint64_t n, uint64_t t,
+                                  const uint8_t *query, size_t query_length,
+                                  const uint8_t *share0, size_t share0_length,
+                                  const uint8_t *share1, size_t share1_length,
+                                  uint8_t *out, size_t out_length);
+
+// Does the whole search: asks the first query, and then what combining answers, until the list is found or nothing is kept; the list is then
+// empty.
+// Reads: each server's seeds, 16 bytes a report, and its public shares, TALLY_PUBLIC_SHARE_LENGTH(n) bytes a report.
+// Writes: the record, each query followed by its totals, into record; the list into list. tally_record_space(n, t, reports) and
+// tally_list_space(n, t, reports) are enough for honest reports; ill-formed ones may need more.
+// Refuses with 1; 2; 3; 4, seeds or public shares of a server are not whole or disagree in count, or the servers' counts differ; 5; 6; 7;
+// 8; 11, and then makes every byte of the record area zero, while the list area is unchanged.
+tally_found tally_search(uint64_t n, uint64_t t, uint64_t expander,
+                         const uint8_t *seeds0, size_t seeds0_length,
+                         const uint8_t *public_shares0, size_t public_shares0_length,
+                         const uint8_t *seeds1, size_t seeds1_length,
+                         const uint8_t *public_shares1, size_t public_shares1_length,
+                         uint8_t *record, size_t record_length,
+                         uint8_t *list, size_t list_length);
+
+#ifdef __cplusplus
+}
+#endif
+
+#endif

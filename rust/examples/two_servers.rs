@@ -1,0 +1,116 @@
+//! Installations make keys, two servers answer queries, and a collector finds which strings of 16 bits at least five installations hold.
+//! At the end the whole search on the same reports has to give the same record and list.
+//!
+//!     cargo run --release --example two_servers
+
+use std::error::Error;
+use tally::{
+    block, combine, make_key, prefix_bits, prefixes, search, share, strings, totals, Answer,
+    Expander, Found, Refusal, Reports, Seed, Server, FIRST_QUERY,
+};
+
+/// The string length and the threshold.
+const N: u64 = 16;
+const T: u64 = 5;
+
+/// The popular strings, with how many installations hold each; only the last is below the threshold.
+const POPULAR: [(u16, usize); 4] = [(0xbeef, 12), (0xbee5, 7), (0x1234, 5), (0x1235, 4)];
+
+/// How many further installations hold some string of their own.
+const OTHERS: usize = 20;
+
+/// What one server was given: the other server's seeds are not here.
+struct Holder {
+    server: Server,
+    seeds: Vec<Seed>,
+    public_shares: Vec<u8>,
+}
+
+impl Holder {
+    fn new(server: Server) -> Holder {
+        Holder {
+            server,
+            seeds: Vec::new(),
+            public_shares: Vec::new(),
+        }
+    }
+
+    fn take(&mut self, seed: Seed, public_share: &[u8]) {
+        self.seeds.push(seed);
+        self.public_shares.extend(public_share);
+    }
+
+    fn reports(&self) -> Reports<'_> {
+        Reports {
+            seeds: &self.seeds,
+            public_shares: &self.public_shares,
+        }
+    }
+
+    fn answer(&self, query: &[u8]) -> Result<Vec<u8>, Refusal> {
+        share(N, Expander::Aes, self.server, self.reports(), query)
+    }
+}
+
+/// Numbered bytes in place of random ones, so that each run is the same; an installation has to draw its seeds at random.
+fn drawn(number: usize) -> Result<Seed, Refusal> {
+    block(Expander::Aes, b"for this example", number as u64)
+}
+
+/// The strings of all installations.
+fn held_strings() -> Result<Vec<u16>, Refusal> {
+    let mut held = Vec::new();
+    for (string, installations) in POPULAR {
+        held.extend(vec![string; installations]);
+    }
+    for i in 0..OTHERS {
+        let bytes = drawn(1_000 + i)?;
+        held.push(u16::from_be_bytes([bytes[0], bytes[1]]));
+    }
+    Ok(held)
+}
+
+/// The collector: asks both servers level by level, until the list is found or nothing is kept.
+fn collect(zero: &Holder, one: &Holder) -> Result<Found, Refusal> {
+    let (mut query, mut record) = (FIRST_QUERY.to_vec(), Vec::new());
+    loop {
+        let (share0, share1) = (zero.answer(&query)?, one.answer(&query)?);
+        let sums = totals(&share0, &share1);
+        record.extend(&query);
+        record.extend(sums.iter().flat_map(|total| total.to_le_bytes()));
+        let level = prefix_bits(&query).unwrap_or_default();
+        let asked = prefixes(&query).count();
+        let kept = sums.iter().filter(|&&total| T <= total).count();
+        println!("level {level:2}: {asked} prefixes asked, {kept} kept");
+        match combine(N, T, &query, &share0, &share1)? {
+            Answer::Next(next) => query = next,
+            Answer::List(list) => return Ok(Found { record, list }),
+            Answer::Ended => {
+                let list = Vec::new();
+                return Ok(Found { record, list });
+            }
+        }
+    }
+}
+
+fn main() -> Result<(), Box<dyn Error>> {
+    let (mut zero, mut one) = (Holder::new(Server::Zero), Holder::new(Server::One));
+    let held = held_strings()?;
+    for (i, string) in held.iter().enumerate() {
+        let (seed0, seed1) = (drawn(2 * i)?, drawn(2 * i + 1)?);
+        let public_share = make_key(N, Expander::Aes, &string.to_be_bytes(), &seed0, &seed1)?;
+        zero.take(seed0, &public_share);
+        one.take(seed1, &public_share);
+    }
+    println!("{} installations, threshold {T}", held.len());
+    let found = collect(&zero, &one)?;
+    for string in strings(N, &found.list) {
+        println!("heavy {:02x}{:02x}", string[0], string[1]);
+    }
+    let whole = search(N, T, Expander::Aes, zero.reports(), one.reports())?;
+    if whole != found {
+        return Err("the whole search differs".into());
+    }
+    println!("the whole search gives the same record and list");
+    Ok(())
+}

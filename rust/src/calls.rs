@@ -1,0 +1,288 @@
+//! The proved library's functions, on numbers and slices. This is the only module with unsafe code.
+//!
+//! Each block below is sound for the same reasons. The declarations agree with the library's: a slice is a pointer and a length, and the structs
+//! have C's layout. A slice's pointer is never null, its length is right, and the borrow lasts for the whole call. An area that is written
+//! comes from `&mut`, so it overlaps nothing else. The library is proved, for all inputs, to do nothing undefined and to return; it borrows its
+//! slices for the call alone, and what it returns are numbers. The proof does not cover the compiler's back end, nor these declarations.
+
+use crate::Reports;
+
+/// The number of a refusal, or 0, and how many bytes were written.
+#[repr(C)]
+#[derive(Clone, Copy, Debug, PartialEq, Eq)]
+pub struct Reply {
+    pub number: u64,
+    pub length: u64,
+}
+
+/// The number of a refusal, or 0; the kind of the answer; how many bytes were written.
+#[repr(C)]
+#[derive(Clone, Copy, Debug, PartialEq, Eq)]
+pub struct CombineReply {
+    pub number: u64,
+    pub kind: u64,
+    pub length: u64,
+}
+
+/// The number of a refusal, or 0, and how many bytes of the record and of the list were written.
+#[repr(C)]
+#[derive(Clone, Copy, Debug, PartialEq, Eq)]
+pub struct SearchReply {
+    pub number: u64,
+    pub record_length: u64,
+    pub list_length: u64,
+}
+
+mod library {
+    use super::{CombineReply, Reply, SearchReply};
+
+    #[link(name = "capi", kind = "static")]
+    extern "C" {
+        pub fn tally_block(
+            expander: u64,
+            seed: *const u8,
+            seed_length: usize,
+            j: u64,
+            block: *mut u8,
+            block_length: usize,
+        ) -> Reply;
+
+        pub fn tally_key(
+            n: u64,
+            expander: u64,
+            string: *const u8,
+            string_length: usize,
+            seed0: *const u8,
+            seed0_length: usize,
+            seed1: *const u8,
+            seed1_length: usize,
+            public_share: *mut u8,
+            public_share_length: usize,
+        ) -> Reply;
+
+        pub fn tally_share(
+            n: u64,
+            expander: u64,
+            server: bool,
+            seeds: *const u8,
+            seeds_length: usize,
+            public_shares: *const u8,
+            public_shares_length: usize,
+            query: *const u8,
+            query_length: usize,
+            share: *mut u8,
+            share_length: usize,
+        ) -> Reply;
+
+        pub fn tally_combine(
+            n: u64,
+            t: u64,
+            query: *const u8,
+            query_length: usize,
+            share0: *const u8,
+            share0_length: usize,
+            share1: *const u8,
+            share1_length: usize,
+            out: *mut u8,
+            out_length: usize,
+        ) -> CombineReply;
+
+        pub fn tally_search(
+            n: u64,
+            t: u64,
+            expander: u64,
+            seeds0: *const u8,
+            seeds0_length: usize,
+            public_shares0: *const u8,
+            public_shares0_length: usize,
+            seeds1: *const u8,
+            seeds1_length: usize,
+            public_shares1: *const u8,
+            public_shares1_length: usize,
+            record: *mut u8,
+            record_length: usize,
+            list: *mut u8,
+            list_length: usize,
+        ) -> SearchReply;
+    }
+}
+
+/// Block `j` of a seed, into `block`.
+pub fn block(expander: u64, seed: &[u8], j: u64, block: &mut [u8]) -> Reply {
+    // SAFETY: each pointer and length come from one live slice, and `block` is borrowed mutably.
+    unsafe {
+        library::tally_block(
+            expander,
+            seed.as_ptr(),
+            seed.len(),
+            j,
+            block.as_mut_ptr(),
+            block.len(),
+        )
+    }
+}
+
+/// The public share of a packed string, into `public_share`.
+pub fn key(
+    n: u64,
+    expander: u64,
+    string: &[u8],
+    seed0: &[u8],
+    seed1: &[u8],
+    public_share: &mut [u8],
+) -> Reply {
+    // SAFETY: each pointer and length come from one live slice, and `public_share` is borrowed mutably.
+    unsafe {
+        library::tally_key(
+            n,
+            expander,
+            string.as_ptr(),
+            string.len(),
+            seed0.as_ptr(),
+            seed0.len(),
+            seed1.as_ptr(),
+            seed1.len(),
+            public_share.as_mut_ptr(),
+            public_share.len(),
+        )
+    }
+}
+
+/// A server's share for a query, into `share`.
+pub fn share(
+    n: u64,
+    expander: u64,
+    server: bool,
+    reports: Reports<'_>,
+    query: &[u8],
+    share: &mut [u8],
+) -> Reply {
+    let seeds = reports.seeds.as_flattened();
+    // SAFETY: each pointer and length come from one live slice, and `share` is borrowed mutably.
+    unsafe {
+        library::tally_share(
+            n,
+            expander,
+            server,
+            seeds.as_ptr(),
+            seeds.len(),
+            reports.public_shares.as_ptr(),
+            reports.public_shares.len(),
+            query.as_ptr(),
+            query.len(),
+            share.as_mut_ptr(),
+            share.len(),
+        )
+    }
+}
+
+/// The next query or the list of two shares for a query, into `out`.
+pub fn combine(
+    n: u64,
+    t: u64,
+    query: &[u8],
+    share0: &[u8],
+    share1: &[u8],
+    out: &mut [u8],
+) -> CombineReply {
+    // SAFETY: each pointer and length come from one live slice, and `out` is borrowed mutably.
+    unsafe {
+        library::tally_combine(
+            n,
+            t,
+            query.as_ptr(),
+            query.len(),
+            share0.as_ptr(),
+            share0.len(),
+            share1.as_ptr(),
+            share1.len(),
+            out.as_mut_ptr(),
+            out.len(),
+        )
+    }
+}
+
+/// The record and the list of a whole search, into their areas.
+pub fn search(
+    n: u64,
+    t: u64,
+    expander: u64,
+    zero: Reports<'_>,
+    one: Reports<'_>,
+    record: &mut [u8],
+    list: &mut [u8],
+) -> SearchReply {
+    let (seeds0, seeds1) = (zero.seeds.as_flattened(), one.seeds.as_flattened());
+    // SAFETY: each pointer and length come from one live slice; `record` and `list` are borrowed mutably, so they are two areas.
+    unsafe {
+        library::tally_search(
+            n,
+            t,
+            expander,
+            seeds0.as_ptr(),
+            seeds0.len(),
+            zero.public_shares.as_ptr(),
+            zero.public_shares.len(),
+            seeds1.as_ptr(),
+            seeds1.len(),
+            one.public_shares.as_ptr(),
+            one.public_shares.len(),
+            record.as_mut_ptr(),
+            record.len(),
+            list.as_mut_ptr(),
+            list.len(),
+        )
+    }
+}
+
+#[cfg(test)]
+mod tests {
+    use super::*;
+
+    const NONE: Reports<'static> = Reports {
+        seeds: &[],
+        public_shares: &[],
+    };
+
+    // The safe functions take an `Expander`, so the library's own 3 can only be met here.
+    #[test]
+    fn an_unknown_expander_is_refused_with_3_and_writes_nothing() {
+        let refused = Reply {
+            number: 3,
+            length: 0,
+        };
+        let mut space = [7; 64];
+        for expander in [0, 3, u64::MAX] {
+            assert_eq!(block(expander, &[0; 16], 0, &mut space), refused);
+            assert_eq!(
+                key(1, expander, &[0x80], &[0; 16], &[0; 16], &mut space),
+                refused
+            );
+            assert_eq!(
+                share(1, expander, false, NONE, &crate::FIRST_QUERY, &mut space),
+                refused
+            );
+            let mut list = [7; 8];
+            let reply = search(1, 1, expander, NONE, NONE, &mut space, &mut list);
+            assert_eq!(
+                (reply.number, reply.record_length, reply.list_length),
+                (3, 0, 0)
+            );
+            assert_eq!(list, [7; 8]);
+        }
+        assert_eq!(space, [7; 64]);
+    }
+
+    #[test]
+    fn seeds_of_another_length_are_refused_with_4() {
+        let refused = Reply {
+            number: 4,
+            length: 0,
+        };
+        assert_eq!(block(2, &[0; 15], 0, &mut [0; 16]), refused);
+        assert_eq!(
+            key(1, 2, &[0x80], &[0; 17], &[0; 16], &mut [0; 25]),
+            refused
+        );
+    }
+}

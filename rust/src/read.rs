@@ -1,0 +1,144 @@
+//! Reading queries, shares, records and lists. This is plain Rust beside the proved library.
+
+use crate::{packed_length, BITS_MOST, GROUP_ORDER, PREFIXES_MOST};
+
+/// The prefix length and the count that stand in a heading.
+fn heading(bytes: &[u8]) -> Option<(u64, usize)> {
+    let [a, b, c, d, e, f] = *bytes.first_chunk::<6>()?;
+    let bits = u64::from(u16::from_be_bytes([a, b])) + 1;
+    let prefixes = usize::try_from(u32::from_be_bytes([c, d, e, f])).ok()?;
+    let within = bits <= BITS_MOST && (1..=PREFIXES_MOST).contains(&prefixes);
+    within.then_some((bits, prefixes))
+}
+
+/// The prefix length and the count of a query whose own length is what its heading says.
+pub(crate) fn laid_out(query: &[u8]) -> Option<(u64, usize)> {
+    heading(query).filter(|&(bits, prefixes)| query.len() == crate::query_length(bits, prefixes))
+}
+
+/// The group numbers of some bytes, 8 bytes each.
+fn numbers(bytes: &[u8]) -> impl Iterator<Item = u64> + '_ {
+    bytes.chunks_exact(8).map(|eight| {
+        let number = eight.iter().rev();
+        number.fold(0, |high, &byte| high << 8 | u64::from(byte))
+    })
+}
+
+/// How many bits each prefix of a query has; `None` where the query's length is not what its heading says.
+///
+/// ```
+/// assert_eq!(tally::prefix_bits(&tally::FIRST_QUERY), Some(1));
+/// ```
+pub fn prefix_bits(query: &[u8]) -> Option<u64> {
+    laid_out(query).map(|(bits, _)| bits)
+}
+
+/// The packed prefixes of a query, in order; none where the query's length is not what its heading says.
+///
+/// ```
+/// let prefixes: Vec<&[u8]> = tally::prefixes(&tally::FIRST_QUERY).collect();
+/// assert_eq!(prefixes, [[0x00], [0x80]]);
+/// ```
+pub fn prefixes(query: &[u8]) -> impl Iterator<Item = &[u8]> {
+    let (size, packed) = match laid_out(query) {
+        Some((bits, _)) => (packed_length(bits), query.get(6..).unwrap_or_default()),
+        None => (1, &[][..]),
+    };
+    packed.chunks_exact(size)
+}
+
+/// The packed strings of n bits of a list, in order; none where n is outside its bounds.
+///
+/// ```
+/// let strings: Vec<&[u8]> = tally::strings(9, &[0x01, 0x80, 0xff, 0x00]).collect();
+/// assert_eq!(strings, [[0x01, 0x80], [0xff, 0x00]]);
+/// ```
+pub fn strings(n: u64, list: &[u8]) -> impl Iterator<Item = &[u8]> {
+    let size = packed_length(n);
+    let held = if size == 0 { &[] } else { list };
+    held.chunks_exact(size.max(1))
+}
+
+/// The first bits of a packed string as digits `0` and `1`; no more digits than the bytes hold.
+///
+/// ```
+/// assert_eq!(tally::digits(3, &[0b0110_0000]), "011");
+/// ```
+pub fn digits(bits: u64, packed: &[u8]) -> String {
+    let bytes = packed.iter();
+    let all = bytes.flat_map(|byte| (0..8).map(move |i| byte << i & 0x80 != 0));
+    let wanted = usize::try_from(bits).unwrap_or(usize::MAX);
+    all.take(wanted)
+        .map(|bit| if bit { '1' } else { '0' })
+        .collect()
+}
+
+/// The totals of two servers' shares for one query: their numbers added place by place, modulo p.
+///
+/// ```
+/// // 6 and p − 5 add to 1.
+/// let share0 = 6u64.to_le_bytes();
+/// let share1 = (tally::GROUP_ORDER - 5).to_le_bytes();
+/// assert_eq!(tally::totals(&share0, &share1), [1]);
+/// ```
+pub fn totals(share0: &[u8], share1: &[u8]) -> Vec<u64> {
+    let sum = |(a, b): (u64, u64)| (u128::from(a) + u128::from(b)) % u128::from(GROUP_ORDER);
+    let sums = numbers(share0).zip(numbers(share1)).map(sum);
+    sums.map(|total| total as u64).collect()
+}
+
+/// One level of a record: a query, and the total of each of its prefixes.
+#[derive(Clone, Copy, Debug, PartialEq, Eq)]
+pub struct Level<'a> {
+    /// How many bits each prefix has.
+    pub bits: u64,
+    /// The query.
+    pub query: &'a [u8],
+    /// The totals, 8 bytes each.
+    pub totals: &'a [u8],
+}
+
+impl<'a> Level<'a> {
+    /// Each prefix, packed, with its total.
+    ///
+    /// ```
+    /// # use tally::*;
+    /// let none = Reports { seeds: &[], public_shares: &[] };
+    /// let found = search(1, 1, Expander::Aes, none, none)?;
+    /// let level = levels(&found.record).next().unwrap();
+    /// let counted: Vec<(&[u8], u64)> = level.counted().collect();
+    /// assert_eq!(counted, [(&[0x00][..], 0), (&[0x80][..], 0)]);
+    /// # Ok::<(), Refusal>(())
+    /// ```
+    pub fn counted(&self) -> impl Iterator<Item = (&'a [u8], u64)> {
+        prefixes(self.query).zip(numbers(self.totals))
+    }
+}
+
+/// The levels of a record, in order; they end where the bytes are no level.
+///
+/// ```
+/// # use tally::*;
+/// let none = Reports { seeds: &[], public_shares: &[] };
+/// let found = search(1, 1, Expander::Aes, none, none)?;
+/// for level in levels(&found.record) {
+///     for (prefix, total) in level.counted() {
+///         println!("{} {total}", digits(level.bits, prefix));
+///     }
+/// }
+/// # Ok::<(), Refusal>(())
+/// ```
+pub fn levels(record: &[u8]) -> impl Iterator<Item = Level<'_>> {
+    let mut left = record;
+    std::iter::from_fn(move || {
+        let (bits, prefixes) = heading(left)?;
+        let (query, after) = left.split_at_checked(crate::query_length(bits, prefixes))?;
+        let (totals, after) = after.split_at_checked(8 * prefixes)?;
+        left = after;
+        Some(Level {
+            bits,
+            query,
+            totals,
+        })
+    })
+}

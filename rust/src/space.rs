@@ -1,0 +1,114 @@
+//! Lengths in bytes, and space that is enough for a call.
+//!
+//! Where an argument is outside its bounds the length is 0, since the call then refuses before it looks at the space.
+
+use crate::read::laid_out;
+use crate::{BITS_MOST, PREFIXES_MOST, REPORTS_MOST, THRESHOLD_MOST};
+
+/// How many bytes a packed string or prefix of that many bits takes.
+///
+/// ```
+/// assert_eq!(tally::packed_length(9), 2);
+/// ```
+pub fn packed_length(bits: u64) -> usize {
+    if bits <= BITS_MOST {
+        bits.div_ceil(8) as usize
+    } else {
+        0
+    }
+}
+
+/// How many bytes the public share of one report of n bits has: ⌈n ÷ 4⌉ + 24 × n.
+///
+/// ```
+/// assert_eq!(tally::public_share_length(1), 25);
+/// assert_eq!(tally::public_share_length(256), 6208);
+/// ```
+pub fn public_share_length(n: u64) -> usize {
+    if n <= BITS_MOST {
+        (n.div_ceil(4) + 24 * n) as usize
+    } else {
+        0
+    }
+}
+
+/// How many bytes a query of that many prefixes of that many bits has.
+///
+/// ```
+/// assert_eq!(tally::query_length(1, 2), tally::FIRST_QUERY.len());
+/// ```
+pub fn query_length(bits: u64, prefixes: usize) -> usize {
+    if (1..=BITS_MOST).contains(&bits) && (1..=PREFIXES_MOST).contains(&prefixes) {
+        6 + prefixes * packed_length(bits)
+    } else {
+        0
+    }
+}
+
+/// How many bytes a server's share for a query has: 8 for each prefix; 0 where the query's own length is not what its heading says.
+///
+/// ```
+/// assert_eq!(tally::share_length(&tally::FIRST_QUERY), 16);
+/// ```
+pub fn share_length(query: &[u8]) -> usize {
+    laid_out(query).map_or(0, |(_, prefixes)| 8 * prefixes)
+}
+
+/// Space that is enough for what combining answers to a query: the next query if all prefixes are kept, or at length n the list.
+///
+/// ```
+/// assert_eq!(tally::answer_space(2, &tally::FIRST_QUERY), 6 + 4);
+/// assert_eq!(tally::answer_space(1, &tally::FIRST_QUERY), 2);
+/// ```
+pub fn answer_space(n: u64, query: &[u8]) -> usize {
+    match laid_out(query) {
+        Some((bits, prefixes)) if bits == n => prefixes * packed_length(n),
+        Some((bits, prefixes)) if bits < n => {
+            query_length(bits + 1, PREFIXES_MOST.min(2 * prefixes))
+        }
+        _ => 0,
+    }
+}
+
+/// Whether n, t and the number of reports are within their bounds.
+fn within_bounds(n: u64, t: u64, reports: usize) -> bool {
+    (1..=BITS_MOST).contains(&n) && (1..=THRESHOLD_MOST).contains(&t) && reports <= REPORTS_MOST
+}
+
+/// Space that is enough for the record of a search over honest reports.
+///
+/// The first query has two prefixes; a later one has at most two for each of the ⌊reports ÷ t⌋ that can be kept, and never more than there
+/// are. A level takes a heading of 6 bytes, and for each prefix its packed bits and a total of 8 bytes. Ill-formed reports may need more.
+///
+/// ```
+/// assert_eq!(tally::record_space(2, 2, 3), 48);
+/// ```
+pub fn record_space(n: u64, t: u64, reports: usize) -> usize {
+    if !within_bounds(n, t, reports) {
+        return 0;
+    }
+    let kept = reports / t as usize;
+    let level = |bits: u64| {
+        let there_are = if bits < 17 { 1 << bits } else { PREFIXES_MOST };
+        let prefixes = if bits == 1 {
+            2
+        } else {
+            there_are.min(2 * kept)
+        };
+        query_length(bits, prefixes) + 8 * prefixes
+    };
+    (1..=n).map(level).sum()
+}
+
+/// Space that is enough for the list of a search over honest reports: ⌊reports ÷ t⌋ packed strings.
+///
+/// ```
+/// assert_eq!(tally::list_space(16, 5, 12), 4);
+/// ```
+pub fn list_space(n: u64, t: u64, reports: usize) -> usize {
+    if within_bounds(n, t, reports) {
+        reports / t as usize * packed_length(n)
+    } else {
+        0
+    }
+}
