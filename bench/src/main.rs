@@ -4,11 +4,11 @@ mod plain_aes;
 mod plain_combine;
 mod plain_idpf;
 mod plain_search;
-mod proved;
 mod same_aes;
 mod tables;
 mod timing;
 
+use tally::{Answer, Expander, Reports, Server};
 use timing::{compare, Subject};
 
 type Seed = [u8; 16];
@@ -20,8 +20,7 @@ fn counter(j: u64) -> Seed {
 #[inline(never)]
 fn proved_block(seed: &Seed, j: u64) -> Seed {
     let mut out = [0u8; 16];
-    let reply = proved::block(1, seed, j, &mut out);
-    assert_eq!((reply.number, reply.length), (0, 16));
+    assert_eq!(tally::block_into(Expander::Aes, seed, j, &mut out), Ok(16));
     out
 }
 
@@ -81,8 +80,19 @@ fn proved_walk(n: usize, seed: Seed, key: &[u8], prefix: &[u8]) -> u64 {
     query.extend_from_slice(&1u32.to_be_bytes());
     query.extend_from_slice(prefix);
     let mut out = [0u8; 8];
-    let reply = proved::share(n as u64, 1, true, &seed, key, &query, &mut out);
-    assert_eq!((reply.number, reply.length), (0, 8));
+    let reports = Reports {
+        seeds: &[seed],
+        public_shares: key,
+    };
+    let made = tally::share_into(
+        n as u64,
+        Expander::Aes,
+        Server::One,
+        reports,
+        &query,
+        &mut out,
+    );
+    assert_eq!(made, Ok(8));
     u64::from_le_bytes(out)
 }
 
@@ -127,11 +137,8 @@ fn combining(rounds: usize) {
         rounds,
         &mut [
             Subject::new("proved", |_| {
-                let reply = proved::combine(256, t, &query, &share0, &share1, &mut proved_out);
-                assert_eq!(
-                    (reply.number, reply.kind, reply.length as usize),
-                    (0, 1, need)
-                );
+                let answer = tally::combine_into(256, t, &query, &share0, &share1, &mut proved_out);
+                assert_eq!(answer, Ok(Answer::Next(need)));
                 sample(&proved_out)
             }),
             Subject::new("plain Rust", |_| {
@@ -153,7 +160,7 @@ fn sample(bytes: &[u8]) -> Vec<u8> {
 /// An honest collection: the reports lent to each server for strings of n bits, ten of which are held by one installation in fifty each.
 struct Collection {
     n: usize,
-    seeds: [Vec<u8>; 2],
+    seeds: [Vec<Seed>; 2],
     public_shares: Vec<u8>,
 }
 
@@ -191,15 +198,15 @@ impl Collection {
             });
             plain_idpf::make_key(same_block, n, &string, seeds, &mut key);
             for (all, seed) in made.seeds.iter_mut().zip(seeds) {
-                all.extend_from_slice(&seed);
+                all.push(seed);
             }
             made.public_shares.extend_from_slice(&key);
         }
         made
     }
 
-    fn lent(&self) -> [plain_search::Lent<'_>; 2] {
-        [0, 1].map(|server| plain_search::Lent {
+    fn lent(&self) -> [Reports<'_>; 2] {
+        [0, 1].map(|server| Reports {
             seeds: &self.seeds[server],
             public_shares: &self.public_shares,
         })
@@ -209,10 +216,18 @@ impl Collection {
     fn proved(&self, t: u64) -> (Vec<u8>, Vec<u8>) {
         let (mut record, mut list) = (vec![0u8; 1 << 20], vec![0u8; 1 << 16]);
         let [zero, one] = self.lent();
-        let found = proved::search(self.n as u64, t, 1, zero, one, &mut record, &mut list);
-        assert_eq!(found.number, 0);
-        record.truncate(found.record_length as usize);
-        list.truncate(found.list_length as usize);
+        let found = tally::search_into(
+            self.n as u64,
+            t,
+            Expander::Aes,
+            zero,
+            one,
+            &mut record,
+            &mut list,
+        );
+        let found = found.expect("accepted");
+        record.truncate(found.record);
+        list.truncate(found.list);
         (record, list)
     }
 
@@ -284,8 +299,9 @@ fn main() {
             &mut [
                 Subject::new("proved", |c| {
                     keys(c, n, |string, [s0, s1], out| {
-                        let reply = proved::key(n as u64, 1, string, &s0, &s1, out);
-                        assert_eq!((reply.number, reply.length as usize), (0, out.len()));
+                        let made =
+                            tally::make_key_into(n as u64, Expander::Aes, string, &s0, &s1, out);
+                        assert_eq!(made, Ok(out.len()));
                     })
                 }),
                 Subject::new("plain Rust, same AES", |c| {

@@ -2,34 +2,21 @@
 
 use crate::plain_combine::{self, Answer};
 use crate::plain_idpf::{self, P};
+use tally::Reports;
 
 type Seed = [u8; 16];
 
-/// What one server is lent.
-#[derive(Clone, Copy)]
-pub struct Lent<'a> {
-    pub seeds: &'a [u8],
-    pub public_shares: &'a [u8],
+/// The reports of n bits that a server is lent, one by one.
+fn each<'a>(n: usize, lent: Reports<'a>) -> impl Iterator<Item = (Seed, &'a [u8])> {
+    let shares = lent
+        .public_shares
+        .chunks_exact(plain_idpf::public_share_length(n));
+    lent.seeds.iter().copied().zip(shares)
 }
 
-impl<'a> Lent<'a> {
-    fn reports(self, n: usize) -> impl Iterator<Item = (Seed, &'a [u8])> {
-        let shares = self
-            .public_shares
-            .chunks_exact(plain_idpf::public_share_length(n));
-        let seeds = self.seeds.chunks_exact(16);
-        seeds.zip(shares).map(|(s, p)| (s.try_into().unwrap(), p))
-    }
-
-    fn well_formed(self, n: usize) -> bool {
-        let length = plain_idpf::public_share_length(n);
-        let whole = self.seeds.len() % 16 == 0 && self.public_shares.len() % length == 0;
-        whole
-            && self.seeds.len() / 16 == self.public_shares.len() / length
-            && self
-                .reports(n)
-                .all(|(_, p)| plain_idpf::is_public_share(n, p))
-    }
+fn well_formed(n: usize, lent: Reports) -> bool {
+    lent.public_shares.len() == lent.seeds.len() * plain_idpf::public_share_length(n)
+        && each(n, lent).all(|(_, share)| plain_idpf::is_public_share(n, share))
 }
 
 /// The sum over one server's reports at a prefix of `length` bits.
@@ -37,11 +24,11 @@ fn sum(
     block: fn(&Seed, u64) -> Seed,
     n: usize,
     server: bool,
-    lent: Lent,
+    lent: Reports,
     prefix: &[u8],
     length: usize,
 ) -> u64 {
-    lent.reports(n).fold(0, |sum, (seed, public_share)| {
+    each(n, lent).fold(0, |sum, (seed, public_share)| {
         let share = plain_idpf::share(block, n, server, seed, public_share, prefix, length);
         ((sum as u128 + share as u128) % P as u128) as u64
     })
@@ -52,12 +39,12 @@ pub fn search(
     block: fn(&Seed, u64) -> Seed,
     n: usize,
     t: u64,
-    servers: [Lent; 2],
+    servers: [Reports; 2],
     record: &mut [u8],
     list: &mut [u8],
 ) -> Option<(usize, usize)> {
     let [zero, one] = servers;
-    if !zero.well_formed(n) || !one.well_formed(n) || zero.public_shares != one.public_shares {
+    if !well_formed(n, zero) || !well_formed(n, one) || zero.public_shares != one.public_shares {
         return None;
     }
     let mut query = vec![0, 0, 0, 0, 0, 2, 0, 128];
