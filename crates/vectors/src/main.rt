@@ -97,6 +97,7 @@ fn main() {
     keys::long_string(1);
     searches::examples(2);
     searches::examples(1);
+    searches::one_bit();
     searches::bounds(b"G", 1, 1);
     searches::bounds(b"n 256", 256, 1);
     searches::bounds(b"n 257", 257, 1);

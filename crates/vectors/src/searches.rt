@@ -1,4 +1,4 @@
-// Whole searches: examples D, E, F, G and J of the sheet under both expanders, and the bounds of n and t, as lines.
+// Whole searches: examples D to J of the sheet, and the bounds of n and t, as lines.
 use crate::keys::first_bytes;
 use bits::numbers::copy;
 use bits::numbers::read16;
@@ -115,6 +115,40 @@ pub(crate) fn examples(expander: u64) {
     io::write_all(OUT, b"search record area");
     bytes(&short, 47);
     io::write_all(OUT, b"\n");
+}
+
+// A search of one report of 1 bit under expander 2, with t = 1.
+fn one_report(label: &[u8], share: &[u8], seed0: [u8; 16], seed1: [u8; 16]) {
+    let mut record = [255u8; 24];
+    let mut list = [255u8; 2];
+    let found = search::search(
+        1,
+        1,
+        2,
+        &seed0,
+        share,
+        &seed1,
+        share,
+        &mut record,
+        &mut list,
+    );
+    show(label, found, &record, &list);
+}
+
+// Examples H, and I with the payload corrections p − 1 and p.
+pub(crate) fn one_bit() {
+    let string = [0x80u8];
+    let zero = [0u8; 16];
+    let mut one = [0u8; 16];
+    write_le8(&mut one, 0, 1);
+    let mut share = [0u8; 25];
+    idpf::make_key(1, 2, &string, &zero, &zero, &mut share);
+    one_report(b"H", &share, zero, zero);
+    idpf::make_key(1, 2, &string, &zero, &one, &mut share);
+    write_le8(&mut share, 17, 18446744069414584320);
+    one_report(b"I p - 1", &share, zero, one);
+    write_le8(&mut share, 17, 18446744069414584321);
+    one_report(b"I p", &share, zero, one);
 }
 
 // A search of no reports, with room for two totals.

@@ -18,6 +18,7 @@ fn main() {
     for expander in [2, 1] {
         examples(expander);
     }
+    one_bit();
     for (label, n, t) in [
         ("G", 1, 1),
         ("n 256", 256, 1),
@@ -90,6 +91,39 @@ fn examples(expander: u64) {
         if found.number == 11 {
             println!("search record area {}", hex(&record));
         }
+    }
+}
+
+/// Examples H, and I with the payload corrections p − 1 and p.
+fn one_bit() {
+    let zero = [0u8; 16];
+    let mut one = [0u8; 16];
+    one[0] = 1;
+    let p = 18_446_744_069_414_584_321u64;
+    for (label, seed1, payload) in [
+        ("H", zero, None),
+        ("I p - 1", one, Some(p - 1)),
+        ("I p", one, Some(p)),
+    ] {
+        let mut public = vec![0u8; public_share_size(1)];
+        key(1, 2, &[0x80], &zero, &seed1, &mut public);
+        if let Some(payload) = payload {
+            public[17..].copy_from_slice(&payload.to_le_bytes());
+        }
+        let mut record = [255u8; 24];
+        let mut list = [255u8; 2];
+        let found = search(
+            1,
+            1,
+            2,
+            &zero,
+            &public,
+            &seed1,
+            &public,
+            &mut record,
+            &mut list,
+        );
+        show(label, found, &record, &list);
     }
 }
 
