@@ -53,12 +53,12 @@ too-large s t = some-large (numbers s) (failed (allBelow (numbers s)) t)
 too-large-test : (s : List ℕ) → NumberTooLarge s → T (not (allBelow (numbers s)))
 too-large-test s h = failed-test (large-fails (h .0) (numbers s) (h .1) (h .2))
 
-passes : (a : Answer) → T (passesLimit a) → PassesLimit a
+pub passes : (a : Answer) → T (passesLimit a) → PassesLimit a
 passes (next qs) t = ltb→lt limit (length qs) t
 passes (list ss) t = t
 passes ended t = t
 
-passes-test : (a : Answer) → PassesLimit a → T (passesLimit a)
+pub passes-test : (a : Answer) → PassesLimit a → T (passesLimit a)
 passes-test (next qs) h = lt→ltb limit (length qs) h
 passes-test (list ss) h = h
 passes-test ended h = h

@@ -7,7 +7,7 @@ use Prim.Native.Nat.{ℕ, zero, suc, _≤_, _<_}
 use native.Mathlib.Omega.{arith}
 use borrow.Author.Tests.{eqb-false}
 use lib.ListN.{length}
-use lib.Dec.{T, eqb, leb, ltb, ltb→lt, lt→ltb}
+use lib.Dec.{eqb, leb, ltb, ltb→lt, lt→ltb}
 use Rattle.bits.specs.Strings.{Bits, Ascending}
 use Rattle.calls.specs.Causes.{accepted}
 use Rattle.calls.specs.Clauses.{clause, Due}
@@ -17,7 +17,8 @@ use Rattle.tree.specs.Query.{OfLength, limit, IsQuery}
 use Rattle.tree.specs.Search.{start, children, fitsFrom, isKept, heading, searchRecord, searchList, searchFits}
 use Rattle.tree.proofs.Kept.{list-length, list-ascending}
 use Rattle.tree.proofs.Steps.{kept-last}
-use Rattle.combine.specs.Answer.{Answer, next, list, ended, further, answer}
+use Rattle.combine.proofs.CombineDue.{passes as passes-limit, passes-test as passes-limit-test}
+use Rattle.combine.specs.Answer.{list, further, answer}
 use Rattle.combine.specs.Combine.{PassesLimit, passesLimit, combineCauses, combineOutcome}
 use Rattle.search.specs.Search.{Lent, reports, total, recordBytes, listBytes, queriesFit}
 use Rattle.search.proofs.Outcome.{Sound, accepted-clear, not-before-11}
@@ -32,17 +33,6 @@ use Rattle.demands.proofs.Playing.{ruled, play}
 passing : (s : Lent) → Passes s → Sound s
 passing s (inl h) = accepted-clear s h .sound
 passing s (inr h) = not-before-11 s h
-
--- the test of the limit and its clause
-limit-passed : (a : Answer) → T (passesLimit a) → PassesLimit a
-limit-passed (next qs) t = ltb→lt limit (length qs) t
-limit-passed (list ss) t = t
-limit-passed ended t = t
-
-limit-test : (a : Answer) → PassesLimit a → T (passesLimit a)
-limit-test (next qs) h = lt→ltb limit (length qs) h
-limit-test (list ss) h = h
-limit-test ended h = h
 
 -- an answer whose prefixes have few children passes no limit
 answer-within : (n k : ℕ) (ps : List Bits) → (k ≢ n → length (children ps) ≤ limit) → PassesLimit (answer n k ps) → ⊥
@@ -94,7 +84,7 @@ module _ (s : Lent) (passes : Passes s) where
         let b = passesLimit (answerFor s q) in
         let d : Due (clause 11 ((room < spaceFor s q) ⊎ PassesLimit (answerFor s q)) ∷ []) (cond (a || b) 11 0) =
         number-due
-        (also {b = a || b} (either a b (ltb→lt room _) (limit-passed (answerFor s q))) (either-test a b (lt→ltb room _) (limit-test (answerFor s q))) none) in
+        (also {b = a || b} (either a b (ltb→lt room _) (passes-limit (answerFor s q))) (either-test a b (lt→ltb room _) (passes-limit-test (answerFor s q))) none) in
         rw (
           judged-due (combineCauses (s .n) (s .t) q (shareFor s false q) (shareFor s true q) room) _,
           rounds.round-number s (passing s passes) k short (keptAt s k) some few sized sorted room,

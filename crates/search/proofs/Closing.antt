@@ -24,7 +24,8 @@ use Rattle.expander.proofs.Chosen.{unknown}
 use Rattle.tree.specs.Query.{packs}
 use Rattle.tree.specs.Search.{start, keptFrom, fitsFrom, recordFrom, heading, isKept, searchRecord, searchList, searchFits}
 use Rattle.search.specs.Search.{Lent, total, totalUnder, reports, recordBytes, listBytes, queriesFit, searchNumber, recordLength, listLength, recordAfter, listAfter}
-use Rattle.search.specs.Level.{totalOf, Fits, Written, AnsweredAll}
+use Rattle.search.specs.Search.{totalOf}
+use Rattle.search.specs.Level.{Fits, Written, AnsweredAll}
 use Rattle.search.proofs.Outcome.{none-before}
 use Rattle.search.proofs.Areas.{record-length-refused, list-length-refused, list-refused, record-refused, record-zeroed, record-length, list-length}
 use Rattle.search.proofs.Judging.{before}

@@ -3,7 +3,6 @@ use Prim.Native.Nat.{ℕ, zero, suc, _+_, _*_, _^_, _≤_, _<_}
 use native.Mathlib.Omega.{arith}
 use native.Mathlib.Nat.{suc-mul}
 use mathlib.Core.Path.{_≡_, refl, sym, ap, ap₂, _∙_}
-use mathlib.Core.Bool.{cond}
 use mathlib.Core.List.{List, [], _∷_, _++_, map, append-assoc}
 use lib.ListN.{length, take, drop}
 use lib.Seq.{take-at, drop-at, drop-drop, length-take-le}
@@ -20,6 +19,7 @@ use Rattle.tree.specs.Query.{OfLength, packs, query, parts}
 use Rattle.tree.specs.Search.{totals, isKept}
 use Rattle.tree.proofs.Lists.{all-map, all-select}
 use Rattle.tree.proofs.Lengths.{totals-length}
+use Rattle.combine.proofs.KeptSelect.{kept-select}
 use Rattle.search.specs.Level.{stringsAt, numbersAt, reaching, Packed}
 use Rattle.search.proofs.Pieces.{parts-before, part-length, strings-length, reachingAt}
 use Rattle.search.proofs.Asking.{heading, heading-length, query-heading}
@@ -51,10 +51,6 @@ module _ (t : ℕ) (T : Bits → ℕ) (small : (q : Bits) → T q < 256 ^ 8) whe
       rw (append-assoc (little 8 (T q)) (totals T qs) rest, take-at (little 8 (T q)) (totals T qs ++ rest) 8 l, drop-at (little 8 (T q)) (totals T qs ++ rest) 8 l)
       (ap₂ _∷_ (fromLittle-little 8 (T q) (small q)) (numbers-totals qs rest))
 
-  reaching-select : (qs : List Bits) → reaching t qs (map T qs) ≡ select (isKept (leb t) T) qs
-  reaching-select [] = refl
-  reaching-select (q ∷ qs) = ap (λ (r : List Bits). cond (leb t (T q)) (q ∷ r) r) (reaching-select qs)
-
   module _ (k m from place : ℕ) (d : List ℕ) (e : place ≡ from + m * packedLength k) (room : place + 8 * m ≤ length d) (out : List ℕ)
       (f : out ≡ putAt d place (totals T (stringsAt k m from d))) where
     abbrev qs : List Bits
@@ -77,7 +73,7 @@ module _ (t : ℕ) (T : Bits → ℕ) (small : (q : Bits) → T q < 256 ^ 8) whe
     -- those that reach t are those that are kept
     pub reaching-kept : reachingAt t k out m from place ≡ select (isKept (leb t) T) qs
     reaching-kept =
-        ap₂ (λ (a : List (List ℕ)) (b : List ℕ). reaching t (map (unpack k) a) b) same-parts same-numbers ∙ reaching-select qs
+        ap₂ (λ (a : List (List ℕ)) (b : List ℕ). reaching t (map (unpack k) a) b) same-parts same-numbers ∙ kept-select (leb t) T qs
 
     -- and have k bits too
     pub kept-bits : OfLength k (select (isKept (leb t) T) qs)

@@ -22,7 +22,8 @@ use Rattle.tree.specs.Search.{children, totals, isKept}
 use Rattle.tree.proofs.Lists.{and-left, and-right, select-length, number-le}
 use Rattle.tree.proofs.Children.{children-length, children-longer}
 use Rattle.tree.proofs.Queries.{packs-length}
-use Rattle.search.specs.Level.{totalOf, stringsAt, Packed, Listed, AnsweredBelow}
+use Rattle.search.specs.Search.{totalOf}
+use Rattle.search.specs.Level.{stringsAt, Packed, Listed, AnsweredBelow}
 use Rattle.search.proofs.Pieces.{strings-length, reachingAt}
 use Rattle.search.proofs.Reading.{same-parts, reaching-kept, kept-bits, query-strings, query-packed}
 use Rattle.search.proofs.Below.{last-answered, ended-answered, next-size, next-refused, next-answered}

@@ -1,8 +1,8 @@
 -- One level of a search and those below it, as bytes in the record area: for contracts that are not published. Assumes nothing.
 use Prim.Native.Nat.{ℕ, _+_, _≤_, _<_}
 use mathlib.Core.Path.{_≡_}
-use mathlib.Core.Bool.{Bool, true, false, cond}
-use mathlib.Core.List.{List, [], _∷_, _++_, map}
+use mathlib.Core.Bool.{Bool, true, false}
+use mathlib.Core.List.{List, _++_, map}
 use mathlib.Core.Logic.{_⊎_}
 use lib.ListN.{length, drop}
 use lib.Dec.{leb}
@@ -11,19 +11,11 @@ use Rattle.bits.specs.Strings.{Bits, _▹_}
 use Rattle.bits.specs.Numbers.{fromLittle}
 use Rattle.bits.specs.Packing.{packedLength, pack, unpack}
 use Rattle.bits.specs.Places.{putAt}
-use Rattle.expander.specs.declared.Expander.{Expander}
-use Rattle.group.specs.Modular.{field}
-use Rattle.point.specs.Share.{bitOf}
 use Rattle.tree.specs.Query.{packs, parts}
+use Rattle.combine.specs.Answer.{kept}
 use Rattle.tree.specs.Search.{start, totals, keptFrom, fitsFrom, recordFrom, isKept}
-use Rattle.idpf.specs.Reports.{serverSum}
 
 -- ---- one level
-
--- the total of a prefix: the sum of all reports' shares from both servers
-abbrev pub totalOf : Expander → ℕ → List ℕ → List ℕ → List ℕ → List ℕ → Bits → ℕ
-totalOf e n seeds0 shares0 seeds1 shares1 q =
-    field .add (serverSum e n false seeds0 shares0 (bitOf q) (length q)) (serverSum e n true seeds1 shares1 (bitOf q) (length q))
 
 -- m strings of k bits each, packed, from place `at` on
 abbrev pub stringsAt : ℕ → ℕ → ℕ → List ℕ → List Bits
@@ -35,9 +27,7 @@ numbersAt m at bytes = map fromLittle (parts 8 m (drop at bytes))
 
 -- those of the strings whose number is at least t
 abbrev pub reaching : ℕ → List Bits → List ℕ → List Bits
-reaching t [] xs = []
-reaching t (q ∷ qs) [] = []
-reaching t (q ∷ qs) (x ∷ xs) = cond (leb t x) (q ∷ reaching t qs xs) (reaching t qs xs)
+reaching t = kept (leb t)
 
 -- both children of a prefix, packed
 abbrev pub both : Bits → List ℕ

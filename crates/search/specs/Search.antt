@@ -11,6 +11,7 @@ use Rattle.calls.specs.Bounds.{LengthOutside, lengthOutside, ThresholdOutside, 
 use Rattle.calls.specs.Causes.{Cause, cause, numberDue}
 use Rattle.calls.specs.Clauses.{Clause, clause}
 use Rattle.expander.specs.Expander.{choiceOf, isExpander}
+use Rattle.expander.specs.declared.Expander.{Expander}
 use Rattle.expander.specs.declared.Choice.{Choice}
 use Rattle.expander.specs.declared.Choice.the-variants.{Known, Unknown}
 use Rattle.group.specs.Modular.{field}
@@ -54,9 +55,13 @@ reports s = length (s .seeds0) / 16
 -- ---- the search
 
 -- the total of the prefix q: the sum of all reports' shares from both servers, whatever bytes were lent for reports
+abbrev pub totalOf : Expander → ℕ → List ℕ → List ℕ → List ℕ → List ℕ → Bits → ℕ
+totalOf e n seeds0 shares0 seeds1 shares1 q =
+    field .add (serverSum e n false seeds0 shares0 (bitOf q) (length q)) (serverSum e n true seeds1 shares1 (bitOf q) (length q))
+
+-- the same under the expander that was chosen; without one, 0
 unfoldable pub totalUnder : Choice → Lent → Bits → ℕ
-totalUnder (Known e) s q =
-    field .add (serverSum e (s .n) false (s .seeds0) (s .shares0) (bitOf q) (length q)) (serverSum e (s .n) true (s .seeds1) (s .shares1) (bitOf q) (length q))
+totalUnder (Known e) s q = totalOf e (s .n) (s .seeds0) (s .shares0) (s .seeds1) (s .shares1) q
 totalUnder Unknown s q = 0
 
 abbrev pub total : Lent → Bits → ℕ

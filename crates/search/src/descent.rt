@@ -12,7 +12,8 @@ ghost use lib.ListN.{length, drop};
 ghost use lib.Dec.{leb};
 ghost use Rattle.bits.specs.Packing.{packedLength};
 ghost use Rattle.tree.specs.Query.{packs, parts};
-ghost use Rattle.search.specs.Level.{totalOf, stringsAt, numbersAt, reaching, Packed, Listed, AnsweredBelow};
+ghost use Rattle.search.specs.Search.{totalOf};
+ghost use Rattle.search.specs.Level.{stringsAt, numbersAt, reaching, Packed, Listed, AnsweredBelow};
 
 // Whether the children of `kept` prefixes of k bits are within the limit, and their query and totals fit into `room` places from `end` on.
 fn next_fits(room: usize, end: usize, k: usize, kept: usize) -> bool

@@ -11,7 +11,8 @@ ghost use Rattle.bits.specs.Numbers.{little};
 ghost use Rattle.bits.specs.Packing.{packedLength, unpack};
 ghost use Rattle.bits.specs.Places.{putAt};
 ghost use Rattle.tree.specs.Search.{totals, isKept};
-ghost use Rattle.search.specs.Level.{totalOf, stringsAt};
+ghost use Rattle.search.specs.Search.{totalOf};
+ghost use Rattle.search.specs.Level.{stringsAt};
 
 // The total of the prefix that the first k bits of `prefix` are.
 fn total_of(

@@ -11,7 +11,8 @@ ghost use lib.Dec.{leb};
 ghost use Rattle.bits.specs.Places.{putAt};
 ghost use Rattle.tree.specs.Query.{query};
 ghost use Rattle.tree.specs.Search.{start, children};
-ghost use Rattle.search.specs.Level.{totalOf, AnsweredAll};
+ghost use Rattle.search.specs.Search.{totalOf};
+ghost use Rattle.search.specs.Level.{AnsweredAll};
 
 // Writes the first query, `0` and `1`, at the beginning of the area.
 fn write_first(area: &mut [u8])

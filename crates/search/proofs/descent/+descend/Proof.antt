@@ -10,7 +10,7 @@ use lib.ListN.{length}
 use Rattle.bits.specs.Strings.{Bits}
 use Rattle.bits.specs.Packing.{packedLength}
 use Rattle.bits.proofs.Places.{putAt-length}
-use Rattle.search.specs.Level.{totalOf}
+use Rattle.search.specs.Search.{totalOf}
 use Rattle.search.proofs.Turn.{total-small, list-asked, at-last, at-end, not-next, few, next-asked, level-asked, at-next}
 use Rattle.search.proofs.descent.descend.Reads as descend
 use Rattle.search.proofs.descent.descend.Kinds as descend-kinds

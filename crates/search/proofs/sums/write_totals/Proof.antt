@@ -16,7 +16,8 @@ use Rattle.bits.proofs.Places.{Grown, grown-start, grown-room, grown-more, grow
 use Rattle.tree.specs.Search.{totals, isKept}
 use Rattle.tree.proofs.Lists.{digit-le}
 use Rattle.tree.proofs.Lengths.{totals-length}
-use Rattle.search.specs.Level.{totalOf, stringsAt}
+use Rattle.search.specs.Search.{totalOf}
+use Rattle.search.specs.Level.{stringsAt}
 use Rattle.search.proofs.Pieces.{grown-part, next-room, strings-length, strings-none, totals-step, number-step, grown-length}
 use Rattle.search.proofs.sums.write_totals.Statement.{statement}
 use Rattle.search.proofs.sums.write_totals.Tie as tie

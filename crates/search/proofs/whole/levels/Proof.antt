@@ -2,7 +2,7 @@
 use Prim.Native.Nat.{ℕ}
 use borrow.Author.Needs.{needs}
 use Rattle.bits.specs.Strings.{Bits}
-use Rattle.search.specs.Level.{totalOf}
+use Rattle.search.specs.Search.{totalOf}
 use Rattle.search.proofs.Opening.{first-refused, first-asked, first-answered}
 use Rattle.search.proofs.whole.levels.Statement.{statement}
 use Rattle.search.proofs.whole.levels.Tie as tie
