@@ -1,5 +1,6 @@
-//! AES-128 encryption of one block, after FIPS 197.
+//! The cipher AES-128 of FIPS 197, in the forward direction.
 
+/// The S-box, as its 256 numbers.
 const SBOX: [u8; 256] = [
     0x63, 0x7c, 0x77, 0x7b, 0xf2, 0x6b, 0x6f, 0xc5, 0x30, 0x01, 0x67, 0x2b, 0xfe, 0xd7, 0xab, 0x76,
     0xca, 0x82, 0xc9, 0x7d, 0xfa, 0x59, 0x47, 0xf0, 0xad, 0xd4, 0xa2, 0xaf, 0x9c, 0xa4, 0x72, 0xc0,
@@ -19,110 +20,107 @@ const SBOX: [u8; 256] = [
     0x8c, 0xa1, 0x89, 0x0d, 0xbf, 0xe6, 0x42, 0x68, 0x41, 0x99, 0x2d, 0x0f, 0xb0, 0x54, 0xbb, 0x16,
 ];
 
-const ROUND_CONSTANTS: [u8; 10] = [1, 2, 4, 8, 0x10, 0x20, 0x40, 0x80, 0x1b, 0x36];
+/// The ten round constants of the key schedule.
+const ROUND_CONSTANTS: [u8; 10] = [0x01, 0x02, 0x04, 0x08, 0x10, 0x20, 0x40, 0x80, 0x1b, 0x36];
 
-/// The cipher's state: byte r + 4c is row r of column c.
+/// The S-box's number for a byte.
+fn sub(byte: u8) -> u8 {
+    SBOX[usize::from(byte)]
+}
+
+/// A byte times 2 in GF(2^8).
+fn double(byte: u8) -> u8 {
+    (byte << 1) ^ ((byte >> 7) * 0x1b)
+}
+
+/// The round key after `key`, made with one round constant.
+fn next_key(mut key: [u8; 16], constant: u8) -> [u8; 16] {
+    key[0] ^= sub(key[13]) ^ constant;
+    key[1] ^= sub(key[14]);
+    key[2] ^= sub(key[15]);
+    key[3] ^= sub(key[12]);
+    for i in 4..16 {
+        key[i] ^= key[i - 4];
+    }
+    key
+}
+
+/// The cipher's state: byte r + 4c stands in row r and column c.
 struct State([u8; 16]);
 
 impl State {
-    fn sub_bytes(mut self) -> State {
-        for byte in self.0.iter_mut() {
-            *byte = SBOX[*byte as usize];
+    /// The round key is XORed in.
+    fn add_round_key(mut self, key: &[u8; 16]) -> State {
+        for (byte, key_byte) in self.0.iter_mut().zip(key) {
+            *byte ^= key_byte;
         }
         self
     }
 
+    /// Each byte goes through the S-box.
+    fn sub_bytes(mut self) -> State {
+        for byte in &mut self.0 {
+            *byte = sub(*byte);
+        }
+        self
+    }
+
+    /// Row r turns left by r places.
     fn shift_rows(mut self) -> State {
         let old = self.0;
-        for row in 0..4 {
-            for column in 0..4 {
-                self.0[row + 4 * column] = old[row + 4 * ((column + row) % 4)];
-            }
+        for (i, byte) in self.0.iter_mut().enumerate() {
+            *byte = old[(i + 4 * (i % 4)) % 16];
         }
         self
     }
 
+    /// Each column is multiplied by the matrix of FIPS 197, whose first row is 2, 3, 1, 1.
     fn mix_columns(mut self) -> State {
-        let old = self.0;
-        for column in 0..4 {
-            let at = |row: usize| old[4 * column + row % 4];
-            for row in 0..4 {
-                self.0[4 * column + row] =
-                    double(at(row)) ^ double(at(row + 1)) ^ at(row + 1) ^ at(row + 2) ^ at(row + 3);
-            }
-        }
-        self
-    }
-
-    fn add_round_key(mut self, key: &[u8; 16]) -> State {
-        for (byte, part) in self.0.iter_mut().zip(key) {
-            *byte ^= part;
+        for column in self.0.chunks_exact_mut(4) {
+            let (a, b, c, d) = (column[0], column[1], column[2], column[3]);
+            let all = a ^ b ^ c ^ d;
+            column[0] = a ^ all ^ double(a ^ b);
+            column[1] = b ^ all ^ double(b ^ c);
+            column[2] = c ^ all ^ double(c ^ d);
+            column[3] = d ^ all ^ double(d ^ a);
         }
         self
     }
 }
 
-/// Twice a number of GF(2^8).
-fn double(x: u8) -> u8 {
-    let shifted = (x as u16) << 1;
-    (if shifted > 0xff {
-        shifted ^ 0x11b
-    } else {
-        shifted
-    }) as u8
-}
-
-/// The eleven round keys.
-fn key_schedule(key: &[u8; 16]) -> [[u8; 16]; 11] {
-    let mut words = [[0u8; 4]; 44];
-    for i in 0..44 {
-        if i < 4 {
-            words[i].copy_from_slice(&key[4 * i..4 * i + 4]);
-            continue;
-        }
-        let mut word = words[i - 1];
-        if i % 4 == 0 {
-            word.rotate_left(1);
-            word = word.map(|byte| SBOX[byte as usize]);
-            word[0] ^= ROUND_CONSTANTS[i / 4 - 1];
-        }
-        for k in 0..4 {
-            words[i][k] = words[i - 4][k] ^ word[k];
-        }
-    }
-    let mut keys = [[0u8; 16]; 11];
-    for (i, word) in words.iter().enumerate() {
-        keys[i / 4][4 * (i % 4)..4 * (i % 4) + 4].copy_from_slice(word);
-    }
-    keys
-}
-
-/// The cipher applied to one block.
+/// One block encrypted under one key.
 pub fn encrypt(key: &[u8; 16], block: &[u8; 16]) -> [u8; 16] {
-    let keys = key_schedule(key);
-    let mut state = State(*block).add_round_key(&keys[0]);
-    for key in &keys[1..10] {
-        state = state
-            .sub_bytes()
-            .shift_rows()
-            .mix_columns()
-            .add_round_key(key);
+    let mut round_key = *key;
+    let mut state = State(*block).add_round_key(&round_key);
+    for (round, &constant) in ROUND_CONSTANTS.iter().enumerate() {
+        round_key = next_key(round_key, constant);
+        state = state.sub_bytes().shift_rows();
+        if round < 9 {
+            state = state.mix_columns();
+        }
+        state = state.add_round_key(&round_key);
     }
-    state.sub_bytes().shift_rows().add_round_key(&keys[10]).0
+    state.0
 }
 
 #[cfg(test)]
 mod tests {
     use super::*;
 
-    fn times(a: u8, b: u8) -> u8 {
-        let mut product = 0u32;
+    /// The 16 bytes of a number, highest first, as the papers print them.
+    fn bytes(number: u128) -> [u8; 16] {
+        number.to_be_bytes()
+    }
+
+    /// A product in GF(2^8) with reduction number 11b.
+    fn product(a: u8, b: u8) -> u8 {
+        let mut product = 0u16;
         for i in 0..8 {
             if b >> i & 1 == 1 {
-                product ^= (a as u32) << i;
+                product ^= u16::from(a) << i;
             }
         }
-        for i in (8..15).rev() {
+        for i in (8..16).rev() {
             if product >> i & 1 == 1 {
                 product ^= 0x11b << (i - 8);
             }
@@ -132,78 +130,61 @@ mod tests {
 
     #[test]
     fn sbox_follows_its_rule() {
-        for x in 0..=255u8 {
-            let inverse = (0..=255u8).find(|y| times(x, *y) == 1).unwrap_or(0);
-            let bit = |i: u32| inverse >> (i % 8) & 1;
-            let mut image = 0u8;
-            for i in 0..8 {
-                let sum = bit(i) ^ bit(i + 4) ^ bit(i + 5) ^ bit(i + 6) ^ bit(i + 7);
-                image |= (sum ^ (0x63 >> i & 1)) << i;
-            }
-            assert_eq!(SBOX[x as usize], image, "{x}");
+        for byte in 0..=255u8 {
+            let inverse = (0..=255).find(|&c| product(byte, c) == 1).unwrap_or(0);
+            let turned = (1..5).fold(inverse, |sum, i| sum ^ inverse.rotate_left(i));
+            assert_eq!(sub(byte), turned ^ 0x63);
+            assert_eq!(double(byte), product(byte, 2));
         }
     }
 
-    fn number(text: &str) -> [u8; 16] {
-        u128::from_str_radix(text, 16).unwrap().to_be_bytes()
+    #[test]
+    fn round_constants_are_powers_of_two() {
+        let mut power = 1;
+        for constant in ROUND_CONSTANTS {
+            assert_eq!(constant, power);
+            power = product(power, 2);
+        }
     }
-
-    fn gives(key: &str, block: &str, cipher: &str) {
-        assert_eq!(encrypt(&number(key), &number(block)), number(cipher));
-    }
-
-    const KEY: &str = "2b7e151628aed2a6abf7158809cf4f3c";
 
     #[test]
-    fn fips_197() {
-        gives(
-            KEY,
-            "3243f6a8885a308d313198a2e0370734",
-            "3925841d02dc09fbdc118597196a0b32",
-        );
-        gives(
-            "000102030405060708090a0b0c0d0e0f",
-            "00112233445566778899aabbccddeeff",
-            "69c4e0d86a7b0430d8cdb78070b4c55a",
-        );
-        let keys = key_schedule(&number(KEY));
-        assert_eq!(keys[10], number("d014f9a8c9ee2589e13f0cc8b6630ca6"));
+    fn last_round_key_of_fips_197() {
+        let key = bytes(0x2b7e151628aed2a6abf7158809cf4f3c);
+        let last = ROUND_CONSTANTS.into_iter().fold(key, next_key);
+        assert_eq!(last, bytes(0xd014f9a8c9ee2589e13f0cc8b6630ca6));
     }
 
-    const PLAIN: [&str; 4] = [
-        "6bc1bee22e409f96e93d7e117393172a",
-        "ae2d8a571e03ac9c9eb76fac45af8e51",
-        "30c81c46a35ce411e5fbc1191a0a52ef",
-        "f69f2445df4f9b17ad2b417be66c3710",
-    ];
-
     #[test]
-    fn sp_800_38a_ecb() {
-        let cipher = [
-            "3ad77bb40d7a3660a89ecaf32466ef97",
-            "f5d3d58503b9699de785895a96fdbaaf",
-            "43b1cd7f598ece23881b00e3ed030688",
-            "7b0c785e27e8ad3f8223207104725dd4",
+    fn fips_197_appendix_c() {
+        let key = bytes(0x000102030405060708090a0b0c0d0e0f);
+        let plain = bytes(0x00112233445566778899aabbccddeeff);
+        let cipher = bytes(0x69c4e0d86a7b0430d8cdb78070b4c55a);
+        assert_eq!(encrypt(&key, &plain), cipher);
+    }
+
+    /// FIPS 197 appendix B, the four of SP 800-38A F.1.1, and the first counter block of its F.5.1.
+    #[test]
+    fn published_vectors_of_one_key() {
+        let plain = [
+            0x3243f6a8885a308d313198a2e0370734,
+            0x6bc1bee22e409f96e93d7e117393172a,
+            0xae2d8a571e03ac9c9eb76fac45af8e51,
+            0x30c81c46a35ce411e5fbc1191a0a52ef,
+            0xf69f2445df4f9b17ad2b417be66c3710,
+            0xf0f1f2f3f4f5f6f7f8f9fafbfcfdfeff,
         ];
-        for i in 0..4 {
-            gives(KEY, PLAIN[i], cipher[i]);
-        }
-    }
-
-    #[test]
-    fn sp_800_38a_counter() {
         let cipher = [
-            "874d6191b620e3261bef6864990db6ce",
-            "9806f66b7970fdff8617187bb9fffdff",
-            "5ae4df3edbd5d35e5b4f09020db03eab",
-            "1e031dda2fbe03d1792170a0f3009cee",
+            0x3925841d02dc09fbdc118597196a0b32,
+            0x3ad77bb40d7a3660a89ecaf32466ef97,
+            0xf5d3d58503b9699de785895a96fdbaaf,
+            0x43b1cd7f598ece23881b00e3ed030688,
+            0x7b0c785e27e8ad3f8223207104725dd4,
+            0xec8cdf7398607cb0f2d21675ea9ea1e4,
         ];
-        let first = u128::from_be_bytes(number("f0f1f2f3f4f5f6f7f8f9fafbfcfdfeff"));
-        for i in 0..4 {
-            let stream = encrypt(&number(KEY), &(first + i as u128).to_be_bytes());
-            let plain = number(PLAIN[i]);
-            let made: Vec<u8> = stream.iter().zip(plain).map(|(s, p)| s ^ p).collect();
-            assert_eq!(made, number(cipher[i]));
-        }
+        let key = bytes(0x2b7e151628aed2a6abf7158809cf4f3c);
+        assert_eq!(
+            plain.map(|plain| encrypt(&key, &bytes(plain))),
+            cipher.map(bytes)
+        );
     }
 }

@@ -1,34 +1,39 @@
-//! Numbers below p, added and negated modulo p.
+//! The group of the numbers below p, and their bytes.
 
-/// The modulus, 2^64 - 2^32 + 1.
-pub const P: u64 = 18_446_744_069_414_584_321;
+/// The number p, which is 2^64 - 2^32 + 1.
+pub const P: u64 = 18446744069414584321;
 
+/// A number modulo p.
 pub fn reduce(number: u64) -> u64 {
-    number % P
-}
-
-pub fn add(a: u64, b: u64) -> u64 {
-    ((a as u128 + b as u128) % P as u128) as u64
-}
-
-pub fn negate(a: u64) -> u64 {
-    let a = reduce(a);
-    if a == 0 {
-        0
+    if number < P {
+        number
     } else {
-        P - a
+        number - P
     }
 }
 
-/// The number of 8 bytes, least significant first, as it stands.
+/// The sum of two numbers modulo p.
+pub fn add(a: u64, b: u64) -> u64 {
+    let (a, b) = (reduce(a), reduce(b));
+    let room = P - b;
+    if a < room {
+        a + b
+    } else {
+        a - room
+    }
+}
+
+/// The negative of a number modulo p.
+pub fn negate(a: u64) -> u64 {
+    reduce(P - reduce(a))
+}
+
+/// The number in 8 bytes of the wire, least significant first, not reduced.
 pub fn read(bytes: &[u8]) -> u64 {
-    let mut number = 0u64;
-    for (i, byte) in bytes.iter().take(8).enumerate() {
-        number |= (*byte as u64) << (8 * i);
-    }
-    number
+    u64::from_le_bytes(bytes.try_into().expect("a number has 8 bytes"))
 }
 
+/// The 8 bytes of a number on the wire, least significant first.
 pub fn write(number: u64) -> [u8; 8] {
     number.to_le_bytes()
 }
@@ -36,17 +41,40 @@ pub fn write(number: u64) -> [u8; 8] {
 #[cfg(test)]
 mod tests {
     use super::*;
+    use crate::chance::Chance;
+
+    /// Numbers at the edges and some others.
+    fn numbers() -> Vec<u64> {
+        let mut numbers = vec![0, 1, 2, P / 2, P / 2 + 1, P - 2, P - 1, P, P + 1];
+        numbers.extend([1 << 32, (1 << 32) - 1, u64::MAX - 1, u64::MAX]);
+        let mut chance = Chance(1);
+        numbers.extend((0..50).map(|_| chance.number()));
+        numbers
+    }
 
     #[test]
-    fn sums_and_opposites() {
-        assert_eq!(P as u128, (1u128 << 64) - (1u128 << 32) + 1);
-        assert_eq!(add(P - 1, 1), 0);
-        assert_eq!(add(P - 1, P - 1), P - 2);
-        assert_eq!(negate(0), 0);
-        assert_eq!(negate(5), P - 5);
-        assert_eq!(reduce(P), 0);
-        assert_eq!(reduce(u64::MAX), (1 << 32) - 2);
-        assert_eq!(read(&[2, 1, 0, 0, 0, 0, 0, 0]), 258);
-        assert_eq!(write(258), [2, 1, 0, 0, 0, 0, 0, 0]);
+    fn p_is_its_formula() {
+        assert_eq!(u128::from(P), (1u128 << 64) - (1u128 << 32) + 1);
+    }
+
+    #[test]
+    fn sums_and_negatives_agree_with_wide_numbers() {
+        let p = u128::from(P);
+        for a in numbers() {
+            assert_eq!(u128::from(reduce(a)), u128::from(a) % p);
+            assert_eq!(u128::from(negate(a)), (2 * p - u128::from(a)) % p);
+            for b in numbers() {
+                assert_eq!(u128::from(add(a, b)), (u128::from(a) + u128::from(b)) % p);
+            }
+        }
+    }
+
+    #[test]
+    fn bytes_go_and_come() {
+        assert_eq!(write(0x0102_0304_0506_0708), [8, 7, 6, 5, 4, 3, 2, 1]);
+        assert_eq!(read(&[255; 8]), u64::MAX);
+        for number in numbers() {
+            assert_eq!(read(&write(number)), number);
+        }
     }
 }

@@ -1,128 +1,198 @@
-//! The key maker, the expansion of seeds and the public share's layout.
+//! The key maker, with the nodes and the reader of public shares that the servers use too.
 
 use crate::expander::Expander;
-use crate::query::unpack;
-use crate::{field, judge, seed_of, Reply};
+use crate::field;
 
+/// A seed.
 pub type Seed = [u8; 16];
 
-/// The public corrections of one level.
-#[derive(Clone, Copy, Debug, PartialEq, Eq)]
-pub struct Level {
-    pub left: bool,
-    pub right: bool,
-    pub seed: Seed,
-    pub payload: u64,
-}
+/// The bytes of one level's seed correction and payload correction.
+const LEVEL: usize = 24;
 
-impl Level {
-    /// The control bit correction of a side, true for right.
-    pub fn control(&self, side: bool) -> bool {
-        if side {
-            self.right
-        } else {
-            self.left
-        }
-    }
-}
-
-pub fn xor(a: &Seed, b: &Seed) -> Seed {
-    let mut both = *a;
-    for (byte, other) in both.iter_mut().zip(b) {
-        *byte ^= other;
-    }
-    both
-}
-
-/// The child's seed and control bit before correction; side true for right.
-pub fn child(expander: Expander, seed: &Seed, side: bool) -> (Seed, bool) {
-    let mut block = expander.block(seed, side as u64);
-    let control = block[0] & 1 == 1;
-    block[0] &= 0xfe;
-    (block, control)
-}
-
-/// The final seed and the payload W of a corrected seed.
-pub fn draw(expander: Expander, corrected: &Seed) -> (Seed, u64) {
-    let seed = expander.block(corrected, 2);
-    let w = field::reduce(field::read(&expander.block(corrected, 3)[..8]));
-    (seed, w)
-}
-
-/// The corrections of every level for one string.
-pub fn corrections(expander: Expander, string: &[bool], s0: Seed, s1: Seed) -> Vec<Level> {
-    let mut seeds = [s0, s1];
-    let mut controls = [false, true];
-    let mut levels = Vec::new();
-    for &alpha in string {
-        let left = [0, 1].map(|b| child(expander, &seeds[b], false));
-        let right = [0, 1].map(|b| child(expander, &seeds[b], true));
-        let (keep, lose) = if alpha { (right, left) } else { (left, right) };
-        let mut level = Level {
-            left: left[0].1 ^ left[1].1 ^ alpha ^ true,
-            right: right[0].1 ^ right[1].1 ^ alpha,
-            seed: xor(&lose[0].0, &lose[1].0),
-            payload: 0,
-        };
-        let mut payloads = [0u64; 2];
-        for b in 0..2 {
-            let (mut seed, mut control) = keep[b];
-            if controls[b] {
-                seed = xor(&seed, &level.seed);
-                control ^= level.control(alpha);
-            }
-            controls[b] = control;
-            (seeds[b], payloads[b]) = draw(expander, &seed);
-        }
-        let difference = field::add(field::negate(payloads[0]), payloads[1]);
-        level.payload = field::add(1, difference);
-        if controls[1] {
-            level.payload = field::negate(level.payload);
-        }
-        levels.push(level);
-    }
-    levels
-}
-
-/// Bytes of the control bits at the head of a public share.
+/// The bytes of the control bits of a public share, two bits a level.
 pub fn head_size(n: usize) -> usize {
     n.div_ceil(4)
 }
 
-/// Bytes of one public share.
+/// The bytes of a public share.
 pub fn public_share_size(n: usize) -> usize {
-    head_size(n) + 24 * n
+    head_size(n) + LEVEL * n
 }
 
-/// The bytes of a public share.
-pub fn write(levels: &[Level]) -> Vec<u8> {
-    let mut bytes = vec![0u8; head_size(levels.len())];
-    for (i, level) in levels.iter().enumerate() {
-        for (at, set) in [(2 * i, level.left), (2 * i + 1, level.right)] {
-            bytes[at / 8] |= (set as u8) << (at % 8);
+/// The seed and control bit that a server has at one prefix.
+#[derive(Clone, Copy)]
+pub(crate) struct Node {
+    seed: Seed,
+    pub control: bool,
+}
+
+/// The seed correction and the left and right bit correction of one level.
+pub(crate) struct Correction {
+    seed: Seed,
+    controls: [bool; 2],
+}
+
+/// The XOR of two seeds.
+fn xor(a: &Seed, b: &Seed) -> Seed {
+    std::array::from_fn(|i| a[i] ^ b[i])
+}
+
+impl Node {
+    /// The node of the empty prefix, for one server.
+    pub fn root(server: bool, seed: Seed) -> Node {
+        let control = server;
+        Node { seed, control }
+    }
+
+    /// The child on one side, true for right, before correction.
+    fn child(self, expander: Expander, side: bool) -> Node {
+        let mut seed = expander.block(&self.seed, u64::from(side));
+        let control = seed[0] & 1 == 1;
+        seed[0] &= 0xfe;
+        Node { seed, control }
+    }
+
+    /// The child on one side, after correction.
+    pub fn corrected(self, expander: Expander, side: bool, correction: &Correction) -> Node {
+        let mut child = self.child(expander, side);
+        if self.control {
+            child.seed = xor(&child.seed, &correction.seed);
+            child.control ^= correction.controls[usize::from(side)];
+        }
+        child
+    }
+
+    /// The draw of a corrected node: the node with its final seed.
+    pub fn finished(self, expander: Expander) -> Node {
+        let seed = expander.block(&self.seed, 2);
+        Node { seed, ..self }
+    }
+
+    /// The draw of a corrected node: its payload W.
+    pub fn payload(self, expander: Expander) -> u64 {
+        field::reduce(field::read(&expander.block(&self.seed, 3)[..8]))
+    }
+}
+
+/// The corrections of the level below two nodes, for the string's bit there.
+fn correct(expander: Expander, nodes: [Node; 2], bit: bool) -> Correction {
+    let left = nodes.map(|node| node.child(expander, false));
+    let right = nodes.map(|node| node.child(expander, true));
+    let lose = if bit { &left } else { &right };
+    Correction {
+        seed: xor(&lose[0].seed, &lose[1].seed),
+        controls: [
+            left[0].control ^ left[1].control ^ bit ^ true,
+            right[0].control ^ right[1].control ^ bit,
+        ],
+    }
+}
+
+/// The payload correction at two corrected nodes.
+fn correct_payload(expander: Expander, nodes: [Node; 2]) -> u64 {
+    let [w0, w1] = nodes.map(|node| node.payload(expander));
+    let payload = field::add(field::add(1, field::negate(w0)), w1);
+    if nodes[1].control {
+        field::negate(payload)
+    } else {
+        payload
+    }
+}
+
+/// The public share of a report for a string and two root seeds.
+pub fn public_share(expander: Expander, string: &[bool], seed0: Seed, seed1: Seed) -> Vec<u8> {
+    let mut share = Vec::with_capacity(public_share_size(string.len()));
+    share.resize(head_size(string.len()), 0);
+    let mut nodes = [Node::root(false, seed0), Node::root(true, seed1)];
+    for (level, &bit) in string.iter().enumerate() {
+        let correction = correct(expander, nodes, bit);
+        nodes = nodes.map(|node| node.corrected(expander, bit, &correction));
+        let [left, right] = correction.controls.map(u8::from);
+        share[level / 4] |= (left | right << 1) << (2 * (level % 4));
+        share.extend(correction.seed);
+        share.extend(field::write(correct_payload(expander, nodes)));
+        nodes = nodes.map(|node| node.finished(expander));
+    }
+    share
+}
+
+/// A reader that walks one lent public share level by level.
+pub(crate) struct Reader<'a> {
+    head: &'a [u8],
+    levels: &'a [u8],
+    next: usize,
+}
+
+impl<'a> Reader<'a> {
+    /// A reader before the first level of a public share for strings of n bits.
+    pub fn of(n: usize, public_share: &'a [u8]) -> Reader<'a> {
+        let (head, levels) = public_share.split_at(head_size(n));
+        Reader {
+            head,
+            levels,
+            next: 0,
         }
     }
-    for level in levels {
-        bytes.extend_from_slice(&level.seed);
-        bytes.extend_from_slice(&field::write(level.payload));
+
+    /// The next level's corrections, its payload correction last.
+    pub fn read(&mut self) -> (Correction, u64) {
+        let controls = self.head[self.next / 4] >> (2 * (self.next % 4));
+        let level = &self.levels[LEVEL * self.next..LEVEL * (self.next + 1)];
+        self.next += 1;
+        let correction = Correction {
+            seed: std::array::from_fn(|i| level[i]),
+            controls: [controls & 1 == 1, controls >> 1 & 1 == 1],
+        };
+        (correction, field::read(&level[16..]))
     }
-    bytes
 }
 
-/// Writes the public share of one report.
-pub fn key(
-    n: u64,
-    expander: u64,
-    string: &[u8],
-    seed0: &[u8],
-    seed1: &[u8],
-    public_share: &mut [u8],
-) -> Reply {
-    let space = public_share.len();
-    let number = judge::key(n, expander, string, seed0, seed1, space);
-    Reply::settle(number, public_share, || {
-        let bits = unpack(string, n as usize);
-        let (s0, s1) = (seed_of(seed0), seed_of(seed1));
-        write(&corrections(Expander::of(expander), &bits, s0, s1))
-    })
+#[cfg(test)]
+mod tests {
+    use super::*;
+    use crate::chance::Chance;
+
+    #[test]
+    fn sizes() {
+        let rows = [(1, 1), (4, 1), (5, 2), (9, 3), (255, 64), (256, 64)];
+        for (n, head) in rows {
+            assert_eq!(head_size(n), head);
+            assert_eq!(public_share_size(n), head + 24 * n);
+        }
+    }
+
+    #[test]
+    fn sheet_a() {
+        let mut seed1 = [0; 16];
+        seed1[0] = 1;
+        let share = public_share(Expander::Classroom, &[true], [0; 16], seed1);
+        let mut expected = vec![0; 25];
+        (expected[0], expected[1], expected[9], expected[17]) = (1, 2, 3, 1);
+        assert_eq!(share, expected);
+    }
+
+    #[test]
+    fn a_payload_is_below_p() {
+        let node = Node::root(false, [255; 16]);
+        assert_eq!(node.payload(Expander::Classroom), 3);
+        let mut seed = [255; 16];
+        seed[0] = 251;
+        let node = Node::root(false, seed);
+        assert_eq!(node.payload(Expander::Classroom), u64::MAX - field::P);
+    }
+
+    #[test]
+    fn shares_have_their_size_and_no_spare_bits() {
+        let mut chance = Chance(5);
+        for n in 1..=256 {
+            let string = chance.string(n);
+            let share = public_share(Expander::Classroom, &string, chance.seed(), chance.seed());
+            assert_eq!(share.len(), public_share_size(n));
+            assert!((2 * n..8 * head_size(n)).all(|i| share[i / 8] >> (i % 8) & 1 == 0));
+            let levels = share[head_size(n)..].chunks_exact(LEVEL);
+            for level in levels {
+                assert!(level[0] & 1 == 0 && field::read(&level[16..]) < field::P);
+            }
+        }
+    }
 }

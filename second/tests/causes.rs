@@ -1,8 +1,9 @@
 //! The lowest cause that applies, and spaces left as they were.
 
 use second::field::P;
+use second::judge::query_as_laid_out;
 use second::keys::public_share_size;
-use second::query::{first, write};
+use second::query::{first, unpack, write, Query};
 use second::{combine, key, search, share, Combined, Found, Reply};
 
 const SEED: [u8; 16] = [3; 16];
@@ -215,4 +216,31 @@ fn causes_of_search() {
         (found.number, found.record_length, found.list_length),
         (0, 72, 1)
     );
+}
+
+#[test]
+fn queries_as_laid_out() {
+    assert_eq!(first(), [0, 0, 0, 0, 0, 2, 0x00, 0x80]);
+    assert!(query_as_laid_out(1, &first()));
+    let good = [0, 2, 0, 0, 0, 2, 0x20, 0xe0];
+    assert!(query_as_laid_out(3, &good));
+    let query = Query::of(&good);
+    assert_eq!((query.length, query.count), (3, 2));
+    assert_eq!(unpack(query.prefix(0), 3), [false, false, true]);
+    assert!(!query_as_laid_out(2, &good));
+    for i in 0..good.len() {
+        assert!(!query_as_laid_out(3, &good[..i]));
+    }
+    for bad in [
+        [0, 2, 0, 0, 0, 2, 0x21, 0xe0],
+        [0, 2, 0, 0, 0, 2, 0xe0, 0x20],
+        [0, 2, 0, 0, 0, 2, 0x20, 0x20],
+        [0, 2, 0, 0, 0, 1, 0x20, 0xe0],
+        [0, 2, 0, 0, 0, 3, 0x20, 0xe0],
+        [0, 1, 0, 0, 0, 2, 0x20, 0xe0],
+        [1, 2, 0, 0, 0, 2, 0x20, 0xe0],
+    ] {
+        assert!(!query_as_laid_out(3, &bad));
+    }
+    assert!(!query_as_laid_out(3, &[0, 2, 0, 0, 0, 0]));
 }
