@@ -16,4 +16,3 @@ pub mod Loop
 pub mod Demand1
 pub mod Demand2
 pub mod Demand3
-pub mod Sheet

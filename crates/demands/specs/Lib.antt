@@ -1,3 +1,2 @@
 pub mod Honest
-pub mod Sheet
 pub mod Loop

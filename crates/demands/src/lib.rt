@@ -1,1 +1,1 @@
-// What the calls answer, a search played call by call, and the sheet of examples. It has no code.
+// What the calls answer, and a search played call by call. It has no code.

@@ -3,6 +3,7 @@ use Prim.Native.Nat.{ℕ, _+_, _-_, _%_, _≤_}
 use mathlib.Core.Path.{_≡_}
 use mathlib.Core.Bool.{Bool, true, false, cond}
 use mathlib.Core.List.{List, [], _∷_, _++_}
+use mathlib.Core.Option.{Option, some}
 use lib.ListN.{length, replicate}
 use Rattle.bits.specs.Strings.{Bits}
 use Rattle.bits.specs.Numbers.{little, fromLittle}
@@ -18,7 +19,9 @@ use Rattle.tree.specs.Space.{listSpace}
 use Rattle.idpf.specs.Key.{keyOutcome}
 use Rattle.idpf.specs.Share.{shareOutcome}
 use Rattle.search.specs.Search.{Lent, searchNumber}
 use Rattle.demands.specs.Honest.{Accepted, recordRead, listRead, Honest}
+use Rattle.exam_text.specs.Sheet.{Sheet, strings, text, Within}
+use Rattle.exam_text.specs.Exam.{examOutcome}
 
 -- A key of the sheet: the number of its expander, its string and its root seeds.
 pub record Key : Type 0 where
@@ -56,6 +59,8 @@ pub data Row : Type 0 where
   numberWith : ℕ → ℕ → List Bits → ℕ → ℕ → Row
   -- t and strings, and their cut strings
   cutsOf : ℕ → List Bits → List Bits → Row
+  -- n, t, the expander and strings, and the whole output for every exam sheet of them, whatever its seeds, in any space that holds it
+  outputOf : ℕ → ℕ → Option ℕ → List Bits → List ℕ → Row
 
 -- what a row says
 abbrev pub Holds : Row → Type 0
@@ -71,6 +76,8 @@ Holds (numberWith n t xs room number) =
     (s : Lent) → Honest s xs → s .n ≡ n → s .t ≡ t → isExpander (s .expander) ≡ true → length (s .recordArea) ≡ room → listSpace n t (length xs) ≤ length (s .listArea)
     → searchNumber s ≡ number
 Holds (cutsOf t xs ss) = cuts t xs ≡ ss
+Holds (outputOf n t e xs bytes) =
+    (s : Sheet) → Within s → s .n ≡ n → s .t ≡ t → s .expander ≡ e → strings s ≡ xs → (room : ℕ) → length bytes ≤ room → examOutcome (text s) room ≡ accepted bytes
 
 -- s0 all zero
 abbrev pub zeroSeed : List ℕ
@@ -110,6 +117,15 @@ twoLevels a b c d =
     (0 ∷ 0 ∷ 0 ∷ 0 ∷ 0 ∷ 2 ∷ 0 ∷ 128 ∷ []) ++ (a ∷ replicate 7 0) ++ (b ∷ replicate 7 0)
     ++ (0 ∷ 1 ∷ 0 ∷ 0 ∷ 0 ∷ 2 ∷ 0 ∷ 64 ∷ []) ++ (c ∷ replicate 7 0) ++ (d ∷ replicate 7 0)
 
+-- the lines `0 2`, `1 1`, `00 0`, `01 2` and `heavy 01`
+abbrev pub outputD : List ℕ
+outputD =
+    (48 ∷ 32 ∷ 50 ∷ 10 ∷ [])
+    ++ (49 ∷ 32 ∷ 49 ∷ 10 ∷ [])
+    ++ (48 ∷ 48 ∷ 32 ∷ 48 ∷ 10 ∷ [])
+    ++ (48 ∷ 49 ∷ 32 ∷ 50 ∷ 10 ∷ [])
+    ++ (104 ∷ 101 ∷ 97 ∷ 118 ∷ 121 ∷ 32 ∷ 48 ∷ 49 ∷ 10 ∷ [])
+
 -- the marked examples
 abbrev pub table : List Row
 table =
@@ -122,6 +138,7 @@ table =
     -- D
     ∷ searchOf 2 2 (s01 ∷ s01 ∷ s11 ∷ []) (twoLevels 2 1 0 2) (s01 ∷ [])
     ∷ cutsOf 2 (s01 ∷ s01 ∷ s11 ∷ []) (s01 ∷ s01 ∷ s1 ∷ [])
+    ∷ outputOf 2 2 (some 2) (s01 ∷ s01 ∷ s11 ∷ []) outputD
     -- E
     ∷ searchOf 2 2 (s01 ∷ s01 ∷ s10 ∷ []) (twoLevels 2 1 0 2) (s01 ∷ [])
     ∷ cutsOf 2 (s01 ∷ s01 ∷ s10 ∷ []) (s01 ∷ s01 ∷ s1 ∷ [])

@@ -1,18 +1,21 @@
 -- The sheet of document 01: every row of the table holds. Assumes nothing.
 use mathlib.Core.Path.{_≡_, refl, ap, ap₂, _∙_}
-use mathlib.Core.Bool.{cond, xor}
-use mathlib.Core.List.{List}
+use mathlib.Core.Bool.{true, false, cond, xor}
+use mathlib.Core.List.{List, [], _∷_}
+use mathlib.Core.Option.{some}
 use Prim.Native.Nat.{ℕ, _≤_}
 use native.Mathlib.Omega.{arith}
 use lib.ListN.{length}
+use borrow.Author.Tests.{le-ltb}
 use lib.Dec.{ltb}
 use Rattle.bits.specs.Lists.{All}
 use Rattle.bits.specs.Strings.{Bits}
 use Rattle.bits.specs.Numbers.{little, fromLittle, big, fromBig}
 use Rattle.bits.specs.Packing.{value, packIn, pack, digits, bitsOf, unpack, spareZero}
 use Rattle.bits.specs.Places.{window, putAt}
+use Rattle.calls.specs.Bounds.{lengthOutside, thresholdOutside}
 use Rattle.calls.proofs.Judged.{_&_}
-use Rattle.expander.specs.Expander.{classroomBlock, xorBytes}
+use Rattle.expander.specs.Expander.{isExpander, classroomBlock, xorBytes}
 use Rattle.point.specs.Node.{controlBit, cleared, child, final, payloadOf}
 use Rattle.point.specs.Correction.{corrected, correctedChild}
 use Rattle.point.specs.Keys.{seedCorrection, leftCorrection, rightCorrection, keptChild, payloadCorrection, correction, keyNode, keyCorrection}
@@ -25,9 +28,13 @@ use Rattle.tree.specs.Cut.{honestRecord, honestList, cut}
 use Rattle.idpf.specs.Key.{keyBytes, keyOutcome}
 use Rattle.idpf.specs.Reports.{sumBelow, lentShare, serverSum}
 use Rattle.idpf.specs.Share.{shareBytes, shareOutcome}
-use Rattle.demands.specs.Sheet.{Holds, searchOf, numberWith, table}
+use Rattle.exam_text.specs.Characters.{binary, decimalIn}
+use Rattle.exam_text.specs.Sheet.{Line, Sheet, strings, numberOf}
+use Rattle.exam_text.specs.Answer.{heavyLines, queryLines, linesFrom, answerText}
+use Rattle.exam_text.proofs.Exam.{sheet-outcome, same-answer}
+use Rattle.examples.specs.Sheet.{Holds, searchOf, numberWith, outputOf, table, s01, s11}
 use Rattle.demands.proofs.Counted.{accepted-record, accepted-list}
 use Rattle.demands.proofs.Accepting.{listed-number}
 
 -- Naming `keys` on an `unfolding` line opens every definition that a key and a share run through.
 keys : Unit {0}
@@ -44,6 +51,11 @@ records : Unit {0}
 unfolding searchRecord heading searchList cut
 records = tt
 
+-- Naming `answers` opens every definition that an answer runs through.
+answers : Unit {0}
+unfolding binary decimalIn heavyLines queryLines linesFrom answerText
+answers = tt
+
 -- A search row holds where the record and the list of its strings are those of the row.
 search-row : (n t : ℕ) (xs : List Bits) (bytes : List ℕ) (ss : List Bits) → honestRecord n t xs ≡ bytes → honestList n t xs ≡ ss
     → Holds (searchOf n t xs bytes ss)
@@ -55,13 +67,26 @@ search-row n t xs bytes ss record-is list-is s honest bits threshold ok = (
 -- A number row holds where its number is 0 if the record of its strings has the room, and 11 if not.
 number-row : (n t : ℕ) (xs : List Bits) (room : ℕ) → 1 ≤ n → n ≤ 256 → 1 ≤ t → t ≤ 65535 → length xs ≤ 65535
     → Holds (numberWith n t xs room (cond (ltb room (length (honestRecord n t xs))) 11 0))
-number-row n t xs room from to some most few s honest bits threshold known area list =
-    listed-number s xs honest (rw bits from) (rw bits to) (rw threshold some) (rw threshold most) known few (rw (bits, threshold) list)
+number-row n t xs room from to least most few s honest bits threshold known area list =
+    listed-number s xs honest (rw bits from) (rw bits to) (rw threshold least) (rw threshold most) known few (rw (bits, threshold) list)
     ∙ ap₂ (λ (r m : ℕ). cond (ltb r m) 11 0) area (ap₂ (λ (m u : ℕ). length (honestRecord m u xs)) bits threshold)
+
+-- An output row holds where n, t and the expander pass, and the answer to one sheet of these strings is that of the row.
+output-row : (d : Sheet) (bytes : List ℕ) → lengthOutside (d .n) ≡ false → thresholdOutside (d .t) ≡ false → isExpander (numberOf (d .expander)) ≡ true
+    → answerText d ≡ bytes → Holds (outputOf (d .n) (d .t) (d .expander) (strings d) bytes)
+output-row d bytes n-in t-in known answer s within same-n same-t same-expander same-strings room fits =
+    let same : answerText s ≡ bytes = same-answer s d same-n same-t same-strings ∙ answer in
+    sheet-outcome s within room ∙ rw (same, same-n, same-t, same-expander, n-in, t-in, known, le-ltb room (length bytes) fits)
+
+-- D's strings in an exam sheet; its seeds do not matter
+sheetD : Sheet
+sheetD =
+    let line : Bits → Line = λ s. record { string = s; seed0 = []; seed1 = [] } in
+    record { n = 2; t = 2; expander = some 2; lines = line s01 ∷ line s01 ∷ line s11 ∷ [] }
 
 -- Every row of the table holds.
 pub sheet : All Holds table
-unfolding keys calls records
+unfolding keys calls records answers sheetD
 sheet =
     -- A, B, C
     refl
@@ -70,6 +95,7 @@ sheet =
     -- D
     & search-row 2 2 _ _ _ refl refl
     & refl
+    & output-row sheetD _ refl refl refl refl
     -- E
     & search-row 2 2 _ _ _ refl refl
     & refl

@@ -1,0 +1,15 @@
+pub mod Decimals
+pub mod Numbers
+pub mod LineFields
+pub mod LineParts
+pub mod LinesText
+pub mod FirstLineText
+pub mod ReaderExact
+pub mod Space
+pub mod Rounds
+pub mod Printed
+pub mod Honest
+pub mod TextLengths
+pub mod Longest
+pub mod Exam
+pub mod Examples

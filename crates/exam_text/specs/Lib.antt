@@ -1,0 +1,5 @@
+pub mod Characters
+pub mod Sheet
+pub mod Reader
+pub mod Answer
+pub mod Exam

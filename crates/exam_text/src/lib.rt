@@ -1,0 +1,1 @@
+// Exam text in, answer text out.
