@@ -12,4 +12,8 @@ pub mod Honest
 pub mod TextLengths
 pub mod Longest
 pub mod Exam
+pub mod LastDigit
+pub mod PrintedParts
+pub mod PrintedBits
+pub mod PrintedLines
 pub mod Examples
