@@ -17,3 +17,10 @@ pub mod PrintedParts
 pub mod PrintedBits
 pub mod PrintedLines
 pub mod Examples
+pub mod Digits
+pub mod Field
+pub mod FirstLine
+pub mod LineTests
+pub mod SheetTests
+pub mod Values
+pub mod Placed

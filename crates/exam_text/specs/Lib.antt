@@ -3,3 +3,4 @@ pub mod Sheet
 pub mod Reader
 pub mod Answer
 pub mod Exam
+pub mod Reading

@@ -9,7 +9,11 @@ ghost use Rattle.exam_text.specs.Exam.{refusedOutcome};
 
 mod answer_lines;
 mod decimal;
+mod fields;
+mod first_line;
+mod lines;
 mod printing;
+mod reading;
 
 // Writes the line `refused` and the number; refuses with 11 where it does not fit.
 pub fn refused_line(number: u64, out: &mut [u8]) -> Reply
