@@ -24,3 +24,8 @@ pub mod LineTests
 pub mod SheetTests
 pub mod Values
 pub mod Placed
+pub mod PiecesPut
+pub mod LineKeys
+pub mod LineReports
+pub mod SheetSearch
+pub mod ExamCauses

@@ -1,0 +1,51 @@
+-- `exam_text::reports::write_key` meets its contract: what the key maker writes into the part that it is lent is put at its place. Assumes nothing.
+use Rattle.point.specs.PublicShare.{publicShareLength}
+use Rattle.idpf.specs.Key.{keyOutcome}
+use Rattle.exam_text.proofs.PiecesPut.{part-put}
+use borrow.Author.Needs.{needs}
+use Rattle.exam_text.proofs.reports.write_key.Statement.{statement}
+use Rattle.exam_text.proofs.reports.write_key.Tie as tie
+
+key-length-requires : tie.Need-key-length-requires
+key-length-requires c κs = search needs
+
+add-end : tie.Need-add-end
+add-end c = search needs
+
+sub-make-key : tie.Need-sub-make-key
+sub-make-key c = search needs
+
+part-make-key-start : tie.Need-part-make-key-start
+part-make-key-start c = search needs
+
+part-make-key-end : tie.Need-part-make-key-end
+part-make-key-end c = search needs
+
+make-key-requires : tie.Need-make-key-requires
+make-key-requires c κs = search needs
+
+same-length : tie.Need-same-length
+same-length c = search needs
+
+returns : tie.Need-returns
+returns c =
+    let m = c .before .before in
+    let k = m .before .before in
+    let s = k .before .before .before .before .before in
+    let a = s .args in
+    part-put (a .shares .now) (a .at) (publicShareLength (a .n)) (k .key-length .result)
+    (λ room. keyOutcome (a .n) (a .expander) (a .string .now) (a .seed0 .now) (a .seed1 .now) room .written)
+    (m .make-key .last .1 .1 .1 .1 .1 .0) (k .key-length .ensures) (s .pre .0) (s .pre .1) (m .make-key .ensures .1 .1)
+
+pub write-key-spec : {M : Type 1} → statement M
+write-key-spec =
+    tie.close
+    (tie.spec
+    key-length-requires
+    add-end
+    sub-make-key
+    part-make-key-start
+    part-make-key-end
+    make-key-requires
+    same-length
+    returns)
