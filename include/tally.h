@@ -2,7 +2,7 @@
 //
 // An installation makes the public share of its string with tally_key and gives each server one of its two seeds and the public
 // share. For a query each server makes its share with tally_share. A collector turns two shares into the next query or the list with
-// tally_combine. tally_search does the whole search where one program holds both servers' reports.
+// tally_combine. tally_search does the whole search where one program holds both servers' reports. tally_exam does all of it for an exam text.
 //
 // What every call does:
 // - It reads and writes only what it is lent: each area is a pointer and a length in bytes.
@@ -10,8 +10,8 @@
 // - An area that is written may not overlap any other area of the same call; areas that are only read may overlap each other.
 // - It keeps nothing: no allocation, no state between calls, so calls from several threads are independent.
 // - It returns number 0 on success, with how many bytes were written from the beginning of an area; bytes past them are unchanged.
-// - It returns the lowest number of the table below that applies, with lengths 0, and every lent byte is then unchanged; with one
-//   exception: when tally_search refuses with 11, every byte of the record area becomes zero.
+// - It returns the lowest number of the table below that applies, but 10 before any other, with lengths 0, and every lent byte is then
+//   unchanged; with one exception: when tally_search refuses with 11, every byte of the record area becomes zero.
 // - It takes stack for each bit of n: a search with n = 256 was measured at 194 KiB on x86-64, so a thread should have 256 KiB or more.
 //
 //  number | cause of refusal
@@ -25,9 +25,8 @@
 //       7 | Spare bits are set in a string or in a public share.
 //       8 | The two servers' public shares differ.
 //       9 | The query is not as laid out below, or is outside its limits, or its prefixes are longer than n.
+//      10 | The exam text is not as laid out below; only tally_exam returns it.
 //      11 | What is to be written would not fit the lent space, or a next query would pass 131,070 prefixes.
-//
-// Number 10 is that of an exam text, and none of these functions returns it.
 //
 // How bytes are laid out:
 // - A string of n bits, or a prefix, is packed in the fewest bytes, first bit highest, spare bits zero.
@@ -38,6 +37,12 @@
 // - A share is one group number for each prefix of its query, in order.
 // - A record is each query followed by its totals, one group number for each prefix.
 // - A list is the heavy strings, those that at least t reports hold, packed, ascending.
+// - An exam text is a line `n t C e`, then C lines `string seed0 seed1`, and nothing after them: single spaces, and one newline at the end of
+//   each line. n, t, C and e are decimal, at most 5 digits without leading zeros (zero is `0`); n and C are at most 32; e is the expander, and
+//   where it is missing, with the space before it, it is 2. A string is n digits 0 or 1, a seed 32 hexadecimal digits in lower case. The text
+//   has at most 4,096 bytes.
+// - The answer to an exam text is a line for each queried prefix, its bits and its decimal total with a space between, in record order; then a
+//   line `heavy` and the string, with a space between, for each string of the list. Each line ends in a newline.
 
 #ifndef TALLY_H
 #define TALLY_H
@@ -63,6 +68,7 @@ extern "C" {
 #define TALLY_REFUSED_SPARE_BITS 7
 #define TALLY_REFUSED_PUBLIC_SHARES_DIFFER 8
 #define TALLY_REFUSED_QUERY 9
+#define TALLY_REFUSED_EXAM_TEXT 10
 #define TALLY_REFUSED_SPACE 11
 
 // The expanders: AES-128, and the classroom's, which hides nothing.
@@ -80,6 +86,11 @@ extern "C" {
 #define TALLY_THRESHOLD_MOST 65535
 #define TALLY_REPORTS_MOST 65535
 #define TALLY_PREFIXES_MOST 131070
+
+// The bounds of an exam text: string length, reports, and bytes.
+#define TALLY_EXAM_BITS_MOST 32
+#define TALLY_EXAM_REPORTS_MOST 32
+#define TALLY_EXAM_TEXT_MOST 4096
 
 // The order p of the group.
 #define TALLY_GROUP_ORDER UINT64_C(18446744069414584321)
@@ -133,6 +144,10 @@ static inline size_t tally_list_space(uint64_t n, uint64_t t, uint64_t reports)
         return 0;
     return (size_t)(reports / t) * TALLY_PACKED_LENGTH(n);
 }
+
+// Space that is enough for the answer to every exam text: 64 lines of k + 4 bytes for each prefix length k from 1 to 32, and 32 heavy strings
+// in lines of 39 bytes.
+#define TALLY_EXAM_SPACE 43232
 
 // ---- calls
 
@@ -214,6 +229,13 @@ tally_found tally_search(uint64_t n, uint64_t t, uint64_t expander,
                          const uint8_t *public_shares1, size_t public_shares1_length,
                          uint8_t *record, size_t record_length,
                          uint8_t *list, size_t list_length);
+
+// Answers an exam text: makes the keys of its strings, does the whole search over them, and writes the record and the list as lines.
+// Reads: the text, which need not end in a zero byte.
+// Writes: the answer into out, without a zero byte at its end. TALLY_EXAM_SPACE bytes are always enough; there are at least 8.
+// Refuses with 10, judged first; 1, n is 0; 2; 3; 11, out is too small for the whole answer.
+tally_reply tally_exam(const uint8_t *text, size_t text_length,
+                       uint8_t *out, size_t out_length);
 
 #ifdef __cplusplus
 }

@@ -9,7 +9,7 @@ fn on(feature: &str) -> bool {
 fn main() {
     println!("cargo:rerun-if-changed=build.rs");
     println!("cargo:rerun-if-env-changed=CAPI_FOLDER");
-    let wanted = on("BLOCK") || on("KEYS") || on("COMBINE") || on("SEARCH");
+    let wanted = on("BLOCK") || on("KEYS") || on("COMBINE") || on("SEARCH") || on("EXAM");
     if wanted && !on("SELFTEST") {
         let home = env::var("CARGO_MANIFEST_DIR").unwrap();
         let usual = format!("{home}/../target/staticlib");

@@ -104,6 +104,13 @@ mod library {
             list: *mut u8,
             list_length: usize,
         ) -> SearchReply;
+
+        pub fn tally_exam(
+            text: *const u8,
+            text_length: usize,
+            out: *mut u8,
+            out_length: usize,
+        ) -> Reply;
     }
 }
 
@@ -235,54 +242,11 @@ pub fn search(
     }
 }
 
-#[cfg(test)]
-mod tests {
-    use super::*;
-
-    const NONE: Reports<'static> = Reports {
-        seeds: &[],
-        public_shares: &[],
-    };
-
-    // The safe functions take an `Expander`, so the library's own 3 can only be met here.
-    #[test]
-    fn an_unknown_expander_is_refused_with_3_and_writes_nothing() {
-        let refused = Reply {
-            number: 3,
-            length: 0,
-        };
-        let mut space = [7; 64];
-        for expander in [0, 3, u64::MAX] {
-            assert_eq!(block(expander, &[0; 16], 0, &mut space), refused);
-            assert_eq!(
-                key(1, expander, &[0x80], &[0; 16], &[0; 16], &mut space),
-                refused
-            );
-            assert_eq!(
-                share(1, expander, false, NONE, &crate::FIRST_QUERY, &mut space),
-                refused
-            );
-            let mut list = [7; 8];
-            let reply = search(1, 1, expander, NONE, NONE, &mut space, &mut list);
-            assert_eq!(
-                (reply.number, reply.record_length, reply.list_length),
-                (3, 0, 0)
-            );
-            assert_eq!(list, [7; 8]);
-        }
-        assert_eq!(space, [7; 64]);
-    }
-
-    #[test]
-    fn seeds_of_another_length_are_refused_with_4() {
-        let refused = Reply {
-            number: 4,
-            length: 0,
-        };
-        assert_eq!(block(2, &[0; 15], 0, &mut [0; 16]), refused);
-        assert_eq!(
-            key(1, 2, &[0x80], &[0; 17], &[0; 16], &mut [0; 25]),
-            refused
-        );
-    }
+/// The answer to an exam text, into `out`.
+pub fn exam(text: &[u8], out: &mut [u8]) -> Reply {
+    // SAFETY: each pointer and length come from one live slice, and `out` is borrowed mutably.
+    unsafe { library::tally_exam(text.as_ptr(), text.len(), out.as_mut_ptr(), out.len()) }
 }
+
+#[cfg(test)]
+mod tests;

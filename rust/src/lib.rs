@@ -2,11 +2,12 @@
 //!
 //! Each installation makes the public share of its string with [`make_key`] and gives each server one of its two seeds and the public share. For
 //! a query each server makes its [`share`]. A collector [`combine`]s two shares into the next query, or at last into the list of strings that
-//! at least t installations hold. [`search`] does all of it where one program holds both servers' reports.
+//! at least t installations hold. [`search`] does all of it where one program holds both servers' reports. [`exam`](exam()) does it for an exam
+//! text.
 //!
 //! Each call has two forms. One returns its bytes; the other, whose name ends in `_into`, writes into lent space and returns how many bytes it
-//! wrote; bytes past them are unchanged. [`public_share_length`], [`share_length`], [`answer_space`], [`record_space`] and
-//! [`list_space`] say how much space to lend.
+//! wrote; bytes past them are unchanged. [`public_share_length`], [`share_length`], [`answer_space`], [`record_space`],
+//! [`list_space`] and [`EXAM_SPACE`] say how much space to lend.
 //!
 //! What the calls compute, and when they refuse, is proved of the library. This crate turns slices into pointers and lengths, numbers into enums,
 //! and reads what was written; that part is plain Rust. n and t are 64-bit numbers, as in the library, so that each wrong value is judged and
@@ -46,10 +47,12 @@
 
 #[allow(unsafe_code)]
 mod calls;
+mod exam;
 mod read;
 mod refusal;
 mod space;
 
+pub use exam::{exam, exam_into, EXAM_SPACE};
 pub use read::{digits, levels, prefix_bits, prefixes, strings, totals, Level};
 pub use refusal::Refusal;
 pub use space::{

@@ -3,7 +3,7 @@
 use std::error::Error;
 use std::fmt;
 
-/// Why a call was refused: the first of the causes that applies, in the order of their numbers.
+/// Why a call was refused: the first of the causes that applies, in the order of their numbers, but 10 before any other.
 ///
 /// A refused call leaves every lent byte as it was, except that [`search_into`](crate::search_into) makes the record area zero when it
 /// refuses with [`Refusal::Space`].
@@ -23,7 +23,8 @@ pub enum Refusal {
     StringLength,
     /// 2: the threshold t is not from 1 to 65,535.
     Threshold,
-    /// 3: the expander is not 1 or 2; only [`Expander::try_from`](crate::Expander) meets it, since the calls take an `Expander`.
+    /// 3: the expander is not 1 or 2; only [`Expander::try_from`](crate::Expander) and [`exam`](crate::exam()) meet it, since the other calls
+    /// take an `Expander`.
     Expander,
     /// 4: a lent input has the wrong length, or seeds and public shares disagree in count.
     InputLength,
@@ -37,6 +38,8 @@ pub enum Refusal {
     PublicSharesDiffer,
     /// 9: the query is not as laid out, is outside its limits, or its prefixes are longer than n.
     Query,
+    /// 10: the exam text is not as laid out; only [`exam`](crate::exam()) and [`exam_into`](crate::exam_into) meet it.
+    ExamText,
     /// 11: what is to be written would not fit the lent space, or a next query would pass 131,070 prefixes.
     Space,
     /// The library answered what its contract rules out, with this number: it never comes from the proved library, only from another one
@@ -61,6 +64,7 @@ impl Refusal {
             Refusal::SpareBits => 7,
             Refusal::PublicSharesDiffer => 8,
             Refusal::Query => 9,
+            Refusal::ExamText => 10,
             Refusal::Space => 11,
             Refusal::Unknown(number) => number,
         }
@@ -78,6 +82,7 @@ impl Refusal {
             7 => Refusal::SpareBits,
             8 => Refusal::PublicSharesDiffer,
             9 => Refusal::Query,
+            10 => Refusal::ExamText,
             11 => Refusal::Space,
             other => Refusal::Unknown(other),
         }
@@ -100,6 +105,7 @@ impl fmt::Display for Refusal {
             Refusal::Query => {
                 "the query is not as laid out, is outside its limits, or its prefixes are longer than n"
             }
+            Refusal::ExamText => "the exam text is not as laid out",
             Refusal::Space => {
                 "what is to be written would not fit the lent space, or a next query would pass 131,070 prefixes"
             }
@@ -121,7 +127,7 @@ mod tests {
         for number in 1..=20 {
             let refusal = Refusal::numbered(number);
             assert_eq!(refusal.number(), number);
-            let known = number <= 11 && number != 10;
+            let known = number <= 11;
             assert_eq!(matches!(refusal, Refusal::Unknown(_)), !known);
         }
     }

@@ -20,7 +20,7 @@ pub mod share;
 
 pub use calls::{block, key, share};
 pub use combine::combine;
-pub use exam::exam;
+pub use exam::{exam, exam_into};
 pub use search::search;
 
 /// Answer of a call that writes one space.

@@ -1,6 +1,7 @@
 //! The exam program's texts and refusals.
 
-use second::exam;
+use second::exam::MOST_ANSWER;
+use second::{exam, exam_into, Reply};
 
 const S: &str = "000102030405060708090a0b0c0d0e0f ffeeddccbbaa99887766554433221100";
 
@@ -107,4 +108,37 @@ fn texts_not_as_laid_out() {
     refused(&good.replace("0a", "a "), 10);
     refused(&format!("1 1 0\n{}", "\n".repeat(5000)), 10);
     assert_eq!(exam(&[0xff, 0xfe, b'\n']), b"refused 10\n");
+}
+
+#[test]
+fn space_for_the_answer() {
+    let text = format!("2 2 3\n01 {S}\n01 {S}\n11 {S}\n");
+    let answer = b"0 2\n1 1\n00 0\n01 2\nheavy 01\n";
+    let refused = |number| Reply { number, length: 0 };
+    let mut out = [7u8; 30];
+    for space in [0, 1, 26] {
+        assert_eq!(exam_into(text.as_bytes(), &mut out[..space]), refused(11));
+    }
+    for (text, number) in [
+        ("1 1 1\n", 10),
+        ("0 0 0 0\n", 1),
+        ("1 0 0 0\n", 2),
+        ("1 1 0 0\n", 3),
+    ] {
+        assert_eq!(exam_into(text.as_bytes(), &mut []), refused(number));
+        assert_eq!(exam_into(text.as_bytes(), &mut out), refused(number));
+    }
+    assert_eq!(out, [7; 30]);
+    let reply = exam_into(text.as_bytes(), &mut out[..27]);
+    assert_eq!((reply.number, reply.length), (0, 27));
+    assert_eq!((&out[..27], &out[27..]), (&answer[..], &[7u8; 3][..]));
+}
+
+#[test]
+fn the_longest_answers_fit() {
+    let line = |i: u32| format!("{:032b} {S}\n", i << 27);
+    let lines: String = (0..32).map(line).collect();
+    let output = exam(format!("32 1 32\n{lines}").as_bytes());
+    assert_eq!(output.len(), 39_710);
+    assert!(output.len() <= MOST_ANSWER);
 }

@@ -9,6 +9,7 @@ ghost use Rattle.bits.specs.Places.{overlay};
 ghost use Rattle.capi.specs.Block.{blockOutcome};
 ghost use Rattle.capi.specs.Combined.{kindNumber};
 ghost use Rattle.combine.specs.Combine.{combineOutcome, combineKind};
+ghost use Rattle.exam_text.specs.Exam.{examOutcome};
 ghost use Rattle.idpf.specs.Key.{keyOutcome};
 ghost use Rattle.idpf.specs.Share.{shareOutcome};
 ghost use Rattle.search.specs.Search.{lent, searchNumber, recordLength, listLength, recordAfter, listAfter};
@@ -162,4 +163,14 @@ pub extern "C" fn tally_search(
         record,
         list,
     )
+}
+
+// Answers an exam text: a line for each queried prefix, then the heavy strings; refuses with 10, 1, 2, 3 or 11.
+#[no_mangle]
+pub extern "C" fn tally_exam(text: &[u8], out: &mut [u8]) -> Reply
+    ensures number { λ r. ⌜ r .number ≡ examOutcome (now (text .entry)) (length (now (out .entry))) .number ⌝ }
+    ensures written { λ r. ⌜ r .length ≡ length (examOutcome (now (text .entry)) (length (now (out .entry))) .written) ⌝ }
+    ensures space { λ _. ⌜ now (out .exit) ≡ overlay (examOutcome (now (text .entry)) (length (now (out .entry))) .written) (now (out .entry)) ⌝ }
+{
+    exam_text::answer(text, out)
 }

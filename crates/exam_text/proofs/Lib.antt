@@ -29,3 +29,4 @@ pub mod LineKeys
 pub mod LineReports
 pub mod SheetSearch
 pub mod ExamCauses
+pub mod Inside

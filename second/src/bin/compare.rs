@@ -1,5 +1,5 @@
 //! Compares the library's calls with the second program's, byte by byte; of the search's answers
-//! for honest reports, also judges demands 2 and 3 by brute force.
+//! for honest reports, also judges demands 2 and 3 by brute force, and counts the exam's so too.
 //!
 //! Arguments, all optional: seed=S calls=N spoil=K trace
 
@@ -14,6 +14,12 @@ mod combine_cases;
 #[cfg(feature = "combine")]
 #[path = "compare/combines.rs"]
 mod combines;
+#[cfg(feature = "exam")]
+#[path = "compare/exam_cases.rs"]
+mod exam_cases;
+#[cfg(feature = "exam")]
+#[path = "compare/exams.rs"]
+mod exams;
 #[cfg(feature = "keys")]
 #[path = "compare/keys.rs"]
 mod keys;
@@ -35,6 +41,9 @@ mod searches;
 #[cfg(feature = "keys")]
 #[path = "compare/shares.rs"]
 mod shares;
+#[cfg(feature = "exam")]
+#[path = "compare/sheets.rs"]
+mod sheets;
 #[allow(dead_code)]
 #[path = "compare/tally.rs"]
 mod tally;
@@ -42,7 +51,7 @@ mod tally;
 use std::process::ExitCode;
 
 /// The numbers each call must have been seen to return.
-const NUMBERS: [(&str, bool, &[u64]); 5] = [
+const NUMBERS: [(&str, bool, &[u64]); 6] = [
     ("block", cfg!(feature = "block"), &[0, 3, 4, 11]),
     ("key", cfg!(feature = "keys"), &[0, 1, 3, 4, 7, 11]),
     (
@@ -60,6 +69,7 @@ const NUMBERS: [(&str, bool, &[u64]); 5] = [
         cfg!(feature = "search"),
         &[0, 1, 2, 3, 4, 5, 6, 7, 8, 11],
     ),
+    ("exam", cfg!(feature = "exam"), &[0, 1, 2, 3, 10, 11]),
 ];
 
 fn main() -> ExitCode {
@@ -81,7 +91,7 @@ fn main() -> ExitCode {
     }
     println!("seed={seed} calls={count} of each kind, special and fixed calls besides");
     if NUMBERS.iter().all(|(_, on, _)| !on) {
-        eprintln!("build with --features block, keys, combine, search or selftest");
+        eprintln!("build with --features block, keys, combine, search, exam or selftest");
         return ExitCode::from(2);
     }
     println!("compared with: {}", calls::NAME);
@@ -95,6 +105,8 @@ fn main() -> ExitCode {
     combines::run(seed, count, &mut tally);
     #[cfg(feature = "search")]
     searches::run(seed, count, &mut tally);
+    #[cfg(feature = "exam")]
+    exams::run(seed, count, &mut tally);
     tally.print();
     let mut missing = 0;
     for (call, on, numbers) in NUMBERS {

@@ -6,7 +6,7 @@ pub const NAME: &str = "the second program itself (selftest)";
 pub const NAME: &str = "the library libcapi.a";
 
 #[cfg(feature = "selftest")]
-pub use second::{block, combine, key, search, share};
+pub use second::{block, combine, exam_into as exam, key, search, share};
 
 #[cfg(all(feature = "block", not(feature = "selftest")))]
 pub fn block(expander: u64, seed: &[u8], j: u64, block: &mut [u8]) -> second::Reply {
@@ -201,4 +201,18 @@ pub fn search(
             list.len(),
         )
     }
+}
+
+#[cfg(all(feature = "exam", not(feature = "selftest")))]
+pub fn exam(text: &[u8], out: &mut [u8]) -> second::Reply {
+    #[link(name = "capi", kind = "static")]
+    extern "C" {
+        fn tally_exam(
+            text: *const u8,
+            text_length: usize,
+            out: *mut u8,
+            out_length: usize,
+        ) -> second::Reply;
+    }
+    unsafe { tally_exam(text.as_ptr(), text.len(), out.as_mut_ptr(), out.len()) }
 }

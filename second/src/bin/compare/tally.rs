@@ -1,6 +1,7 @@
 //! Spaces lent to the calls, and the count of what was compared.
 
 use std::collections::BTreeMap;
+use std::fmt::Display;
 
 /// Bytes after every lent space that no call may touch.
 const GUARD: usize = 24;
@@ -135,7 +136,7 @@ pub struct Tally {
 
 impl Tally {
     /// Announces the next call when tracing.
-    pub fn before(&self, call: &str, plan: &Plan, inputs: &str) {
+    pub fn before(&self, call: &str, plan: &Plan, inputs: &dyn Display) {
         if self.trace {
             eprintln!(
                 "{} {call} {} {:?} {inputs}",
@@ -151,7 +152,7 @@ impl Tally {
         plan: &Plan,
         ours: Outcome,
         mut theirs: Outcome,
-        inputs: &str,
+        inputs: &dyn Display,
     ) -> Outcome {
         if self.spoil == Some(self.calls) {
             match theirs.spaces.last_mut().and_then(|s| s.bytes.last_mut()) {

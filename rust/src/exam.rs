@@ -1,0 +1,51 @@
+//! The answer to an exam text.
+
+use crate::{accepted, calls, written, Refusal};
+
+/// Space that is enough for the answer to every exam text: 64 lines for each of 32 prefix lengths, and 32 heavy strings.
+///
+/// ```
+/// let lines: usize = (1..=32).map(|bits| 64 * (bits + 4)).sum();
+/// assert_eq!(tally::EXAM_SPACE, lines + 32 * (7 + 32));
+/// ```
+pub const EXAM_SPACE: usize = 43_232;
+
+/// The answer to an exam text: a line for each queried prefix, its bits and its total, in record order; then a line for each heavy string.
+///
+/// The text is a line `n t C e`, then C lines `string seed0 seed1`, and nothing after them: single spaces, and one newline at the end of each
+/// line. n, t, C and e are decimal, at most 5 digits without leading zeros; n and C are at most 32; e is the expander's number, and 2 where it
+/// is missing. A string is n digits 0 or 1, a seed 32 hexadecimal digits in lower case. The text has at most 4,096 bytes.
+///
+/// Refuses with 10, judged first; 1, 2 or 3.
+///
+/// ```
+/// use tally::{exam, Refusal};
+///
+/// let text = "2 2 3 2
+/// 01 000102030405060708090a0b0c0d0e0f 101112131415161718191a1b1c1d1e1f
+/// 01 202122232425262728292a2b2c2d2e2f 303132333435363738393a3b3c3d3e3f
+/// 11 404142434445464748494a4b4c4d4e4f 505152535455565758595a5b5c5d5e5f
+/// ";
+/// assert_eq!(exam(text.as_bytes())?, b"0 2\n1 1\n00 0\n01 2\nheavy 01\n");
+/// # Ok::<(), Refusal>(())
+/// ```
+pub fn exam(text: &[u8]) -> Result<Vec<u8>, Refusal> {
+    written(EXAM_SPACE, |out| exam_into(text, out))
+}
+
+/// Writes the answer to an exam text into `out`, and returns how many bytes that is; [`EXAM_SPACE`] bytes are enough.
+///
+/// Refuses with 10, judged first; 1, 2, 3 or 11.
+///
+/// ```
+/// use tally::{exam_into, Refusal};
+///
+/// let mut out = [0; 8];
+/// assert_eq!(exam_into(b"1 1 0\n", &mut out)?, 8);
+/// assert_eq!(&out, b"0 0\n1 0\n");
+/// # Ok::<(), Refusal>(())
+/// ```
+pub fn exam_into(text: &[u8], out: &mut [u8]) -> Result<usize, Refusal> {
+    let reply = calls::exam(text, out);
+    accepted(reply.number, reply.length, out.len())
+}

@@ -1,0 +1,122 @@
+//! Each call made once and judged, with the numbers that it may return.
+
+use crate::calls;
+use crate::judged::{Call, Judged};
+use second::rng::Rng;
+
+/// The generator and the judge that every call is given.
+pub struct Fuzz<'a> {
+    pub rng: Rng,
+    pub judged: &'a mut Judged,
+}
+
+impl Fuzz<'_> {
+    pub fn block(&mut self, expander: u64, j: u64, seed: &[u8], room: usize) {
+        let call = Call {
+            name: "block",
+            may: &[0, 3, 4, 11],
+            fields: &[expander, j],
+        };
+        let make = |[seed]: [&[u8]; 1], [block]: [&mut [u8]; 1]| {
+            let reply = calls::block(expander, seed, j, block);
+            (reply.number, [reply.length])
+        };
+        self.judged.call(&mut self.rng, &call, [seed], [room], make);
+    }
+
+    /// The public share, where it was made.
+    pub fn key(&mut self, n: u64, expander: u64, inputs: [&[u8]; 3], room: usize) -> Vec<u8> {
+        let call = Call {
+            name: "key",
+            may: &[0, 1, 3, 4, 7, 11],
+            fields: &[n, expander],
+        };
+        let make = |[string, seed0, seed1]: [&[u8]; 3], [public]: [&mut [u8]; 1]| {
+            let reply = calls::key(n, expander, string, seed0, seed1, public);
+            (reply.number, [reply.length])
+        };
+        let [public] = self.judged.call(&mut self.rng, &call, inputs, [room], make);
+        public
+    }
+
+    /// The share, where it was made.
+    pub fn share(
+        &mut self,
+        (n, expander, server): (u64, u64, bool),
+        inputs: [&[u8]; 3],
+        room: usize,
+    ) -> Vec<u8> {
+        let call = Call {
+            name: "share",
+            may: &[0, 1, 3, 4, 5, 6, 7, 9, 11],
+            fields: &[n, expander, server as u64],
+        };
+        let make = |[seeds, public, query]: [&[u8]; 3], [share]: [&mut [u8]; 1]| {
+            let reply = calls::share(n, expander, server, seeds, public, query, share);
+            (reply.number, [reply.length])
+        };
+        let [share] = self.judged.call(&mut self.rng, &call, inputs, [room], make);
+        share
+    }
+
+    /// A refusal is of kind 0 and an answer is not; a search that ended has no bytes.
+    pub fn combine(&mut self, n: u64, t: u64, inputs: [&[u8]; 3], room: usize) {
+        let call = Call {
+            name: "combine",
+            may: &[0, 1, 2, 4, 6, 9, 11],
+            fields: &[n, t],
+        };
+        let mut right = true;
+        let make = |[query, share0, share1]: [&[u8]; 3], [out]: [&mut [u8]; 1]| {
+            let made = calls::combine(n, t, query, share0, share1, out);
+            right = match made.kind {
+                0 => made.number != 0,
+                1 | 2 => made.number == 0,
+                3 => made.number == 0 && made.length == 0,
+                _ => false,
+            };
+            (made.number, [made.length])
+        };
+        self.judged.call(&mut self.rng, &call, inputs, [room], make);
+        if !right {
+            self.judged
+                .fault("combine: a kind that its number rules out");
+        }
+    }
+
+    /// The inputs are seeds and public shares of server 0, then those of server 1.
+    pub fn search(
+        &mut self,
+        (n, t, expander): (u64, u64, u64),
+        inputs: [&[u8]; 4],
+        rooms: [usize; 2],
+    ) {
+        let call = Call {
+            name: "search",
+            may: &[0, 1, 2, 3, 4, 5, 6, 7, 8, 11],
+            fields: &[n, t, expander],
+        };
+        let make = |lent: [&[u8]; 4], [record, list]: [&mut [u8]; 2]| {
+            let [seeds0, public0, seeds1, public1] = lent;
+            let found = calls::search(
+                n, t, expander, seeds0, public0, seeds1, public1, record, list,
+            );
+            (found.number, [found.record_length, found.list_length])
+        };
+        self.judged.call(&mut self.rng, &call, inputs, rooms, make);
+    }
+
+    #[cfg(feature = "exam")]
+    pub fn exam(&mut self, text: &[u8], room: usize) {
+        let call = Call {
+            name: "exam",
+            may: &[0, 1, 2, 3, 10, 11],
+            fields: &[],
+        };
+        let make = |[text]: [&[u8]; 1], [out]: [&mut [u8]; 1]| {
+            let reply = calls::exam(text, out);
+            (reply.number, [reply.length])
+        };
+        self.judged.call(&mut self.rng, &call, [text], [room], make);
+    }
+}
