@@ -12,7 +12,8 @@
 // - It returns number 0 on success, with how many bytes were written from the beginning of an area; bytes past them are unchanged.
 // - It returns the lowest number of the table below that applies, but 10 before any other, with lengths 0, and every lent byte is then
 //   unchanged; with one exception: when tally_search refuses with 11, every byte of the record area becomes zero.
-// - It takes stack for each bit of n: a search with n = 256 was measured at 194 KiB on x86-64, so a thread should have 256 KiB or more.
+// - It takes stack for each bit of n: a search with n = 256 was measured at 194 KiB on x86-64, so a thread should have 256 KiB or more;
+//   tally_exam ran in 128 KiB.
 //
 //  number | cause of refusal
 //  -------+---------------------------------------------------------------------------------------------------------------
