@@ -2,71 +2,79 @@
 
 use crate::tables::{RCON, SBOX};
 
-fn double(x: u8) -> u8 {
-    if x < 128 {
-        x << 1
-    } else {
-        (x << 1) ^ 0x1b
-    }
-}
-
 #[derive(Clone, Copy)]
 struct Word {
-    a: u8,
-    b: u8,
-    c: u8,
-    d: u8,
+    bits: u32,
 }
 
 impl Word {
-    fn round_constant(i: usize) -> Word {
+    fn load(bytes: [u8; 4]) -> Word {
+        let [a, b, c, d] = bytes.map(u32::from);
         Word {
-            a: RCON[i],
-            b: 0,
-            c: 0,
-            d: 0,
+            bits: a + 256 * b + 65536 * c + 16777216 * d,
         }
+    }
+
+    fn store(self) -> [u8; 4] {
+        let bits = self.bits;
+        [
+            (bits % 256) as u8,
+            (bits / 256 % 256) as u8,
+            (bits / 65536 % 256) as u8,
+            (bits / 16777216 % 256) as u8,
+        ]
+    }
+
+    fn round_constant(i: usize) -> Word {
+        Word::load([RCON[i], 0, 0, 0])
     }
 
     fn plus(self, other: Word) -> Word {
         Word {
-            a: self.a ^ other.a,
-            b: self.b ^ other.b,
-            c: self.c ^ other.c,
-            d: self.d ^ other.d,
+            bits: self.bits ^ other.bits,
         }
     }
 
     fn rot_word(self) -> Word {
+        let bits = self.bits;
         Word {
-            a: self.b,
-            b: self.c,
-            c: self.d,
-            d: self.a,
+            bits: bits / 256 + bits % 256 * 16777216,
         }
     }
 
     fn sub_word(self, table: &[u8; 256]) -> Word {
+        let bytes = self.store();
+        Word::load([
+            table[bytes[0] as usize],
+            table[bytes[1] as usize],
+            table[bytes[2] as usize],
+            table[bytes[3] as usize],
+        ])
+    }
+
+    fn diagonal(first: Word, second: Word, third: Word, fourth: Word) -> Word {
+        let a = first.store();
+        let b = second.store();
+        let c = third.store();
+        let d = fourth.store();
+        Word::load([a[0], b[1], c[2], d[3]])
+    }
+
+    fn doubled(self) -> Word {
+        let bits = self.bits;
+        let low = bits & 0x7f7f7f7f;
+        let top = (bits / 128) & 0x01010101;
         Word {
-            a: table[self.a as usize],
-            b: table[self.b as usize],
-            c: table[self.c as usize],
-            d: table[self.d as usize],
+            bits: (2 * low) ^ (27 * top),
         }
     }
 
     fn mix_column(self) -> Word {
-        let Word { a, b, c, d } = self;
-        let a2 = double(a);
-        let b2 = double(b);
-        let c2 = double(c);
-        let d2 = double(d);
-        Word {
-            a: a2 ^ (b2 ^ b) ^ c ^ d,
-            b: b2 ^ (c2 ^ c) ^ d ^ a,
-            c: c2 ^ (d2 ^ d) ^ a ^ b,
-            d: d2 ^ (a2 ^ a) ^ b ^ c,
-        }
+        let twice = self.doubled();
+        let third = self.rot_word().rot_word();
+        let fourth = third.rot_word();
+        let next = twice.plus(self).rot_word();
+        twice.plus(next).plus(third).plus(fourth)
     }
 }
 
@@ -80,26 +88,23 @@ struct State {
 
 impl State {
     fn load(b: [u8; 16]) -> State {
-        let word = |i: usize| Word {
-            a: b[i],
-            b: b[i + 1],
-            c: b[i + 2],
-            d: b[i + 3],
-        };
         State {
-            w0: word(0),
-            w1: word(4),
-            w2: word(8),
-            w3: word(12),
+            w0: Word::load([b[0], b[1], b[2], b[3]]),
+            w1: Word::load([b[4], b[5], b[6], b[7]]),
+            w2: Word::load([b[8], b[9], b[10], b[11]]),
+            w3: Word::load([b[12], b[13], b[14], b[15]]),
         }
     }
 
     fn store(self) -> [u8; 16] {
-        let mut out = [0; 16];
-        for (i, w) in [self.w0, self.w1, self.w2, self.w3].into_iter().enumerate() {
-            out[4 * i..4 * i + 4].copy_from_slice(&[w.a, w.b, w.c, w.d]);
-        }
-        out
+        let a = self.w0.store();
+        let b = self.w1.store();
+        let c = self.w2.store();
+        let d = self.w3.store();
+        [
+            a[0], a[1], a[2], a[3], b[0], b[1], b[2], b[3], c[0], c[1], c[2], c[3], d[0], d[1],
+            d[2], d[3],
+        ]
     }
 
     fn sub_bytes(mut self, table: &[u8; 256]) -> State {
@@ -110,20 +115,13 @@ impl State {
         self
     }
 
-    fn shift_rows(self) -> State {
-        let column = |p: Word, q: Word, r: Word, s: Word| Word {
-            a: p.a,
-            b: q.b,
-            c: r.c,
-            d: s.d,
-        };
-        let State { w0, w1, w2, w3 } = self;
-        State {
-            w0: column(w0, w1, w2, w3),
-            w1: column(w1, w2, w3, w0),
-            w2: column(w2, w3, w0, w1),
-            w3: column(w3, w0, w1, w2),
-        }
+    fn shift_rows(mut self) -> State {
+        let s = self;
+        self.w0 = Word::diagonal(s.w0, s.w1, s.w2, s.w3);
+        self.w1 = Word::diagonal(s.w1, s.w2, s.w3, s.w0);
+        self.w2 = Word::diagonal(s.w2, s.w3, s.w0, s.w1);
+        self.w3 = Word::diagonal(s.w3, s.w0, s.w1, s.w2);
+        self
     }
 
     fn mix_columns(mut self) -> State {

@@ -3,6 +3,8 @@ pub mod Below
 pub mod Lists
 pub mod Inverse
 pub mod SBoxTable
+pub mod Words
 pub mod Products
+pub mod Columns
 pub mod Rounds
 pub mod Bytes

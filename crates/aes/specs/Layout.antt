@@ -1,12 +1,16 @@
 -- The bytes of a word and of a state, in their order. Assumes nothing.
 use mathlib.Core.List.{List, [], _∷_, _++_}
-use Prim.Native.Nat.{ℕ}
+use Prim.Native.Nat.{ℕ, _/_, _%_}
 use Rattle.aes.specs.declared.word.Word.{Word}
 use Rattle.aes.specs.declared.state.State.{State}
 
+-- The four lowest bytes of a number, lowest first.
+abbrev pub fourBytes : ℕ → List ℕ
+fourBytes x = x % 256 ∷ x / 256 % 256 ∷ x / 65536 % 256 ∷ x / 16777216 % 256 ∷ []
+
 -- The bytes of a word.
 abbrev pub wordOf : Word → List ℕ
-wordOf w = w .a ∷ w .b ∷ w .c ∷ w .d ∷ []
+wordOf w = fourBytes (w .bits)
 
 -- The bytes of a state, column by column.
 abbrev pub bytesOf : State → List ℕ

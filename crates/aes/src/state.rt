@@ -19,30 +19,10 @@ impl State {
         ensures { λ r. ⌜ bytesOf r ≡ bytes ⌝ }
     {
         State {
-            w0: Word {
-                a: bytes[0],
-                b: bytes[1],
-                c: bytes[2],
-                d: bytes[3],
-            },
-            w1: Word {
-                a: bytes[4],
-                b: bytes[5],
-                c: bytes[6],
-                d: bytes[7],
-            },
-            w2: Word {
-                a: bytes[8],
-                b: bytes[9],
-                c: bytes[10],
-                d: bytes[11],
-            },
-            w3: Word {
-                a: bytes[12],
-                b: bytes[13],
-                c: bytes[14],
-                d: bytes[15],
-            },
+            w0: Word::load([bytes[0], bytes[1], bytes[2], bytes[3]]),
+            w1: Word::load([bytes[4], bytes[5], bytes[6], bytes[7]]),
+            w2: Word::load([bytes[8], bytes[9], bytes[10], bytes[11]]),
+            w3: Word::load([bytes[12], bytes[13], bytes[14], bytes[15]]),
         }
     }
 
@@ -50,23 +30,27 @@ impl State {
     pub(crate) fn store(self) -> [u8; 16]
         ensures { λ r. ⌜ r ≡ bytesOf self ⌝ }
     {
+        let a = self.w0.store();
+        let b = self.w1.store();
+        let c = self.w2.store();
+        let d = self.w3.store();
         [
-            self.w0.a,
-            self.w0.b,
-            self.w0.c,
-            self.w0.d,
-            self.w1.a,
-            self.w1.b,
-            self.w1.c,
-            self.w1.d,
-            self.w2.a,
-            self.w2.b,
-            self.w2.c,
-            self.w2.d,
-            self.w3.a,
-            self.w3.b,
-            self.w3.c,
-            self.w3.d,
+            a[0],
+            a[1],
+            a[2],
+            a[3],
+            b[0],
+            b[1],
+            b[2],
+            b[3],
+            c[0],
+            c[1],
+            c[2],
+            c[3],
+            d[0],
+            d[1],
+            d[2],
+            d[3],
         ]
     }
 
@@ -87,18 +71,10 @@ impl State {
         ensures { λ r. ⌜ bytesOf r ≡ shiftRows (bytesOf self) ⌝ }
     {
         let s = self;
-        self.w0.b = s.w1.b;
-        self.w1.b = s.w2.b;
-        self.w2.b = s.w3.b;
-        self.w3.b = s.w0.b;
-        self.w0.c = s.w2.c;
-        self.w1.c = s.w3.c;
-        self.w2.c = s.w0.c;
-        self.w3.c = s.w1.c;
-        self.w0.d = s.w3.d;
-        self.w1.d = s.w0.d;
-        self.w2.d = s.w1.d;
-        self.w3.d = s.w2.d;
+        self.w0 = Word::diagonal(s.w0, s.w1, s.w2, s.w3);
+        self.w1 = Word::diagonal(s.w1, s.w2, s.w3, s.w0);
+        self.w2 = Word::diagonal(s.w2, s.w3, s.w0, s.w1);
+        self.w3 = Word::diagonal(s.w3, s.w0, s.w1, s.w2);
         self
     }
 

@@ -1,41 +1,60 @@
 // A word of FIPS 197: a column of the state, or a word of the key schedule.
 ghost use mathlib.Core.Path.{_≡_};
+ghost use mathlib.Core.List.{[], _∷_, map};
 ghost use Prim.Native.Nat.{_+_, _<_};
 ghost use Rattle.aes.specs.Field.{_·_};
-ghost use Rattle.aes.specs.Fips197.{sBoxTable, sumWord, mixColumn, rotWord, subWord, rcon};
+ghost use Rattle.aes.specs.Fips197.{sBoxTable, _‼_, sumWord, mixColumn, rotWord, subWord, rcon};
 ghost use Rattle.aes.specs.Layout.{wordOf};
 use crate::sbox::sub;
 
 // The first bytes of the ten round constants.
 const RCON: [u8; 10] = [0x01, 0x02, 0x04, 0x08, 0x10, 0x20, 0x40, 0x80, 0x1b, 0x36];
 
-// Twice a byte in GF(2^8): where its top bit is clear, and where it is set.
-fn double(x: u8) -> u8
-    ensures { λ r. ⌜ r ≡ 2 · x ⌝ }
+// A byte as a wider number.
+fn wide(x: u8) -> u32
+    ensures { λ r. ⌜ (r ≡ x) × (r < 256) ⌝ }
 {
-    if x < 128 { x << 1 } else { (x << 1) ^ 0x1b }
+    x as u32
 }
 
-// Four bytes, from row 0 to row 3.
+// Four bytes as one number, that of row 0 lowest.
 pub(crate) struct Word {
-    pub(crate) a: u8,
-    pub(crate) b: u8,
-    pub(crate) c: u8,
-    pub(crate) d: u8,
+    pub(crate) bits: u32,
 }
 
 impl Word {
+    // The word of 4 bytes, from row 0 to row 3.
+    pub(crate) fn load(bytes: [u8; 4]) -> Word
+        ensures { λ r. ⌜ wordOf r ≡ bytes ⌝ }
+    {
+        let a = wide(bytes[0]);
+        let b = wide(bytes[1]);
+        let c = wide(bytes[2]);
+        let d = wide(bytes[3]);
+        Word {
+            bits: a + 256 * b + 65536 * c + 16777216 * d,
+        }
+    }
+
+    // The 4 bytes of a word.
+    pub(crate) fn store(self) -> [u8; 4]
+        ensures { λ r. ⌜ r ≡ wordOf self ⌝ }
+    {
+        let bits = self.bits;
+        [
+            (bits % 256) as u8,
+            (bits / 256 % 256) as u8,
+            (bits / 65536 % 256) as u8,
+            (bits / 16777216 % 256) as u8,
+        ]
+    }
+
     // The round constant of round i + 1, for i below 10.
     pub(crate) fn round_constant(i: usize) -> Word
         requires { ⌜ i < 10 ⌝ }
         ensures { λ r. ⌜ wordOf r ≡ rcon (i + 1) ⌝ }
     {
-        Word {
-            a: RCON[i],
-            b: 0,
-            c: 0,
-            d: 0,
-        }
+        Word::load([RCON[i], 0, 0, 0])
     }
 
     // The sum of two words.
@@ -43,10 +62,7 @@ impl Word {
         ensures { λ r. ⌜ wordOf r ≡ sumWord (wordOf self) (wordOf other) ⌝ }
     {
         Word {
-            a: self.a ^ other.a,
-            b: self.b ^ other.b,
-            c: self.c ^ other.c,
-            d: self.d ^ other.d,
+            bits: self.bits ^ other.bits,
         }
     }
 
@@ -54,11 +70,9 @@ impl Word {
     pub(crate) fn rot_word(self) -> Word
         ensures { λ r. ⌜ wordOf r ≡ rotWord (wordOf self) ⌝ }
     {
+        let bits = self.bits;
         Word {
-            a: self.b,
-            b: self.c,
-            c: self.d,
-            d: self.a,
+            bits: bits / 256 + bits % 256 * 16777216,
         }
     }
 
@@ -67,11 +81,35 @@ impl Word {
         requires { ⌜ now table ≡ sBoxTable ⌝ }
         ensures { λ r. ⌜ wordOf r ≡ subWord (wordOf self) ⌝ }
     {
+        let bytes = self.store();
+        Word::load([
+            sub(table, bytes[0]),
+            sub(table, bytes[1]),
+            sub(table, bytes[2]),
+            sub(table, bytes[3]),
+        ])
+    }
+
+    // The word of byte 0 of the first word, byte 1 of the second, and so on.
+    pub(crate) fn diagonal(first: Word, second: Word, third: Word, fourth: Word) -> Word
+        ensures { λ r. ⌜ wordOf r ≡ wordOf first ‼ 0 ∷ wordOf second ‼ 1 ∷ wordOf third ‼ 2 ∷ wordOf fourth ‼ 3 ∷ [] ⌝ }
+    {
+        let a = first.store();
+        let b = second.store();
+        let c = third.store();
+        let d = fourth.store();
+        Word::load([a[0], b[1], c[2], d[3]])
+    }
+
+    // Twice each byte in GF(2^8): the low seven bits go one place up, and 1b is added where the top bit is set.
+    fn doubled(self) -> Word
+        ensures { λ r. ⌜ wordOf r ≡ map (λ x. 2 · x) (wordOf self) ⌝ }
+    {
+        let bits = self.bits;
+        let low = bits & 0x7f7f7f7f;
+        let top = (bits / 128) & 0x01010101;
         Word {
-            a: sub(table, self.a),
-            b: sub(table, self.b),
-            c: sub(table, self.c),
-            d: sub(table, self.d),
+            bits: (2 * low) ^ (27 * top),
         }
     }
 
@@ -79,19 +117,10 @@ impl Word {
     pub(crate) fn mix_column(self) -> Word
         ensures { λ r. ⌜ wordOf r ≡ mixColumn (wordOf self) ⌝ }
     {
-        let a = self.a;
-        let b = self.b;
-        let c = self.c;
-        let d = self.d;
-        let a2 = double(a);
-        let b2 = double(b);
-        let c2 = double(c);
-        let d2 = double(d);
-        Word {
-            a: a2 ^ (b2 ^ b) ^ c ^ d,
-            b: b2 ^ (c2 ^ c) ^ d ^ a,
-            c: c2 ^ (d2 ^ d) ^ a ^ b,
-            d: d2 ^ (a2 ^ a) ^ b ^ c,
-        }
+        let twice = self.doubled();
+        let third = self.rot_word().rot_word();
+        let fourth = third.rot_word();
+        let next = twice.plus(self).rot_word();
+        twice.plus(next).plus(third).plus(fourth)
     }
 }

@@ -1,5 +1,5 @@
 -- `aes::word::Word::round_constant` meets its contract. The ten constants are computed. Assumes nothing.
-use mathlib.Core.Path.{ap}
+use mathlib.Core.Path.{ap, _∙_}
 use mathlib.Core.List.{List, [], _∷_}
 use mathlib.Core.Bool.{Bool}
 use Prim.Native.Nat.{ℕ, _+_, _-_}
@@ -21,11 +21,15 @@ right i = eqb (getD constants i 0) (powerOfX (i + 1 - 1))
 array-read-t5 : tie.Need-array-read-t5
 array-read-t5 c = search needs
 
+load-requires : tie.Need-load-requires
+load-requires c κs = search needs
+
 returns : tie.Need-returns
 unfolding constants right computes
 returns c =
-    let i = c .args .i in
-    ap (λ (x : ℕ). x ∷ 0 ∷ 0 ∷ 0 ∷ []) (eqb→eq (getD constants i 0) (powerOfX (i + 1 - 1)) (below right 10 tt i (search needs)))
+    let i = c .before .args .i in
+    c .load .ensures
+    ∙ ap (λ (x : ℕ). x ∷ 0 ∷ 0 ∷ 0 ∷ []) (eqb→eq (getD constants i 0) (powerOfX (i + 1 - 1)) (below right 10 tt i (search needs)))
 
 pub round-constant-spec : {M : Type 1} → statement M
-round-constant-spec = tie.close (tie.spec array-read-t5 returns)
+round-constant-spec = tie.close (tie.spec array-read-t5 load-requires returns)
