@@ -2,6 +2,7 @@ pub mod Nodes
 pub mod Descent
 pub mod Lent
 pub mod LentPrefix
+pub mod Siblings
 pub mod KeyLevel
 pub mod KeyControl
 pub mod KeyWriting

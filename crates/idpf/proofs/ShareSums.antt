@@ -2,7 +2,7 @@
 use Prim.Native.Nat.{ℕ, _+_, _*_, _≤_, _<_}
 use native.Mathlib.Numerals.{add-one}
 use native.Mathlib.Omega.{arith}
-use mathlib.Core.Path.{_≡_, sym, ap, _∙_}
+use mathlib.Core.Path.{_≡_, refl, sym, ap, _∙_}
 use mathlib.Core.Bool.{Bool, true}
 use mathlib.Core.List.{List, [], _++_}
 use lib.ListN.{length, getD, drop, drop-of-length-le}
@@ -69,6 +69,14 @@ module _ (e : Expander) (n : ℕ) (b : Bool) (seeds shares : List ℕ) where
           grown-more d 0 out (8 * i) x (left q (i + 1)) (all q) (rw (left-more i h) at g) all-room out′ (8 * (i + 1))
           (f ∙ ap (λ (s : ℕ). putAt out (8 * i) (little 8 s)) (sum-next i k h l))
           (omega (arith, little-length 8 (sumAt (getD (prefixesOf q) i []))))
+
+      pub sums-two : (out out′ : List ℕ) (i k : ℕ) → i + 1 < prefixCount q → k ≡ prefixLength q → Grown d 0 out (8 * i) (left q i) (all q)
+          → out′ ≡ putAt (putAt out (8 * i) (little 8 (serverSum e n b seeds shares (packedBit (packedPrefix q i)) k)))
+          (8 * (i + 1)) (little 8 (serverSum e n b seeds shares (packedBit (packedPrefix q (i + 1))) k))
+          → Grown d 0 out′ (8 * (i + 2)) (left q (i + 2)) (all q)
+      sums-two out out′ i k h l g f =
+          let next : i + 1 + 1 ≡ i + 2 = omega arith in
+          rw next at (sums-more _ out′ (i + 1) k h l (sums-more out _ i k (omega arith) l g refl) f)
 
       pub sums-length : (out : List ℕ) (i : ℕ) → Grown d 0 out (8 * i) (left q i) (all q) → length out ≡ length d
       sums-length out i g = ap length (g .1) ∙ putAt-length d 0 (g .0)

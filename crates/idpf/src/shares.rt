@@ -2,6 +2,7 @@
 use crate::checks::all_payloads_below;
 use crate::checks::all_spare_bits_zero;
 use crate::layout::public_share_length;
+use crate::pairs::server_sums;
 use crate::reports::server_sum;
 use calls::Reply;
 use expander::Choice;
@@ -9,7 +10,7 @@ use expander::Expander;
 ghost use mathlib.Core.Path.{_≡_};
 ghost use mathlib.Core.Bool.{true};
 ghost use mathlib.Core.List.{[]};
-ghost use Prim.Native.Nat.{_*_, _≤_, _<_};
+ghost use Prim.Native.Nat.{_+_, _*_, _≤_, _<_};
 ghost use lib.ListN.{length};
 ghost use Rattle.bits.specs.Numbers.{little};
 ghost use Rattle.bits.specs.Places.{putAt, overlay};
@@ -95,7 +96,30 @@ fn write_sum(
     bits::numbers::write_le8(out, 8 * i, sum);
 }
 
-// The sums at all prefixes of the query, in order.
+// The sums at prefixes i and i + 1 of the query, of k bits, into their 16 places.
+fn write_sum_pair(
+    e: Expander,
+    n: u16,
+    server: bool,
+    seeds: &[u8],
+    shares: &[u8],
+    query: &[u8],
+    k: u16,
+    i: usize,
+    out: &mut [u8],
+)
+    requires { ⌜ i < 4294967296 ⌝ }
+    ensures { λ _. ⌜ now (out .exit) ≡ putAt (putAt (now (out .entry)) (8 * i) (little 8 (serverSum e n server (now (seeds .entry)) (now (shares .entry)) (packedBit (packedPrefix (now (query .entry)) i)) k))) (8 * (i + 1)) (little 8 (serverSum e n server (now (seeds .entry)) (now (shares .entry)) (packedBit (packedPrefix (now (query .entry)) (i + 1))) k)) ⌝ }
+{
+    let next = i + 1;
+    let first = query::prefix_at(query, i);
+    let second = query::prefix_at(query, next);
+    let sums = server_sums(e, n, server, seeds, shares, first, second, k);
+    bits::numbers::write_le8(out, 8 * i, sums.first);
+    bits::numbers::write_le8(out, 8 * next, sums.second);
+}
+
+// The sums at all prefixes of the query, in order, two at a time.
 fn write_sums(
     e: Expander,
     n: u16,
@@ -111,10 +135,14 @@ fn write_sums(
     let k = query::prefix_length(query) as u16;
     let count = query::prefix_count(query);
     let mut i = 0;
-    while i < count {
-        write_sum(e, n, server, seeds, shares, query, k, i, out);
-        i += 1;
+    while i + 1 < count {
+        write_sum_pair(e, n, server, seeds, shares, query, k, i, out);
+        i += 2;
     }
+    if count <= i {
+        return;
+    }
+    write_sum(e, n, server, seeds, shares, query, k, i, out);
 }
 
 // Writes a server's share for a query: for each prefix in order the sum over all lent reports; refuses with 1, 3, 4, 5, 6, 7, 9 or 11.

@@ -71,7 +71,7 @@ fn corrected_payload(e: Expander, v: u64, m: Node) -> u64
 }
 
 // Server b's share one bit x further down than a node.
-fn share_below(e: Expander, b: bool, c: Correction, x: bool, m: Node) -> u64
+pub(crate) fn share_below(e: Expander, b: bool, c: Correction, x: bool, m: Node) -> u64
     ensures { λ r. ⌜ (r ≡ shareBelow (scheme e) b (correctionOf c) x (nodeOf m)) × (r < p) ⌝ }
 {
     let below = corrected_child(e, c, x, m);
@@ -81,7 +81,7 @@ fn share_below(e: Expander, b: bool, c: Correction, x: bool, m: Node) -> u64
 }
 
 // Server b's node at the first k bits of a packed prefix, from its root seed.
-fn node_at(
+pub(crate) fn node_at(
     e: Expander,
     n: u16,
     bytes: &[u8],

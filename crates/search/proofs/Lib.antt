@@ -5,6 +5,7 @@ pub mod Areas
 pub mod Acceptance
 pub mod Rule
 pub mod Pieces
+pub mod LevelTotals
 pub mod Asking
 pub mod Reading
 pub mod Below

@@ -9,15 +9,14 @@ use borrow.Author.Tests.{leb-true, leb-false}
 use lib.ListN.{length, take, drop, replicate, length-append, length-drop, length-map, length-replicate}
 use lib.Seq.{take-append-le, take-take, take-add, drop-at, drop-drop, length-take-le}
 use lib.Dec.{leb}
-use Rattle.bits.specs.Lists.{digit, number}
 use Rattle.bits.specs.Strings.{Bits, _▹_}
-use Rattle.bits.specs.Numbers.{little, fromLittle}
+use Rattle.bits.specs.Numbers.{fromLittle}
 use Rattle.bits.specs.Packing.{packedLength, pack, digits, bitsOf, unpack}
 use Rattle.bits.specs.Places.{window, putAt, overlay}
 use Rattle.bits.proofs.Packed.{bitsOf-length, unpack-length}
 use Rattle.bits.proofs.Places.{window-inside, putAt-inside, putAt-outside, putAt-length, putAt-overlay, putAt-more, Grown}
 use Rattle.tree.specs.Query.{packs, parts}
-use Rattle.tree.specs.Search.{children, totals}
+use Rattle.tree.specs.Search.{children}
 use Rattle.tree.proofs.Queries.{parts-length}
 use Rattle.query.proofs.Parts.{peel, parts-step}
 use Rattle.query.proofs.Child.{child-length}
@@ -125,12 +124,6 @@ module _ (k w : ℕ) (e : w ≡ packedLength k) (d : List ℕ) (m from : ℕ) (h
 
   strings-step : stringsAt k m from d ≡ first ∷ stringsAt k (m - 1) (from + w) d
   strings-step = rw (e, parts-step (packedLength k) m from d h)
-
-  pub totals-step : (T : Bits → ℕ) → totals T (stringsAt k m from d) ≡ little 8 (T first) ++ totals T (stringsAt k (m - 1) (from + w) d)
-  totals-step T = rw strings-step
-
-  pub number-step : (f : Bits → Bool) → number f (stringsAt k m from d) ≡ digit (f first) + number f (stringsAt k (m - 1) (from + w) d)
-  number-step f = rw strings-step
 
   pub packed-step : Packed k (parts (packedLength k) m (drop from d))
       → (pack first ≡ take w (drop from d)) × Packed k (parts (packedLength k) (m - 1) (drop (from + w) d))

@@ -1,0 +1,81 @@
+-- `idpf::pairs::same_parent` meets its contract. The loop's invariant: the bits before the last agree from place `from` on, which is the measure.
+-- Assumes nothing.
+use mathlib.Core.Path.{_≡_}
+use Prim.Native.Nat.{ℕ, _-_, _≤_}
+use native.Mathlib.Omega.{arith}
+use borrow.Author.Needs.{needs}
+use Rattle.idpf.proofs.Siblings.{SameFrom, same-none, same-all, same-more, same-not}
+use Rattle.idpf.proofs.pairs.same_parent.Statement.{statement}
+use Rattle.idpf.proofs.pairs.same_parent.Tie as tie
+
+abbrev Inv-loop : tie.InvT-loop
+Inv-loop first second k from₀ from = (from ≤ k - 1) × SameFrom first second k from
+
+abbrev μ-loop : tie.MeasureT-loop
+μ-loop first second k from₀ from = from
+
+returns : tie.Need-returns Inv-loop μ-loop
+returns c = ((λ e. let z : _≡_ {A = ℕ} 0 1 = cc in absurd (omega arith)), (λ e s. omega (arith, s .some-bits)))
+
+cast-from : tie.Need-cast-from Inv-loop μ-loop
+cast-from c = omega arith
+
+loop-holds : tie.Need-loop-holds Inv-loop μ-loop
+loop-holds c = let a = c .before .before .before .args in (omega arith, same-none (a .first .now) (a .second .now) (a .k))
+
+sub-from : tie.Need-sub-from Inv-loop μ-loop
+sub-from c = omega arith
+
+bit-at-requires : tie.Need-bit-at-requires Inv-loop μ-loop
+bit-at-requires c κs = search needs
+
+bit-at-requires-2 : tie.Need-bit-at-requires-2 Inv-loop μ-loop
+bit-at-requires-2 c κs = search needs
+
+returns-2 : tie.Need-returns-2 Inv-loop μ-loop
+returns-2 c =
+    let y = c .before in
+    let x = y .before in
+    let l = x .before .before in
+    let a = l .before .before .before .before .args in (
+      (λ e. let z : _≡_ {A = ℕ} 0 1 = cc in absurd (omega arith)),
+      (λ e s. same-not (a .first .now) (a .second .now) (a .k) (l .loop .from) (x .before .loop-test .taken) (x .bit-at .ensures) (y .bit-at2 .ensures) (c .if2 .taken) (l .loop .inv .0) s),
+    )
+
+loop-less : tie.Need-loop-less Inv-loop μ-loop
+loop-less c = omega arith
+
+loop-again : tie.Need-loop-again Inv-loop μ-loop
+loop-again c =
+    let y = c .before in
+    let x = y .before in
+    let l = x .before .before in
+    let a = l .before .before .before .before .args in (
+      omega arith,
+      same-more (a .first .now) (a .second .now) (a .k) (l .loop .from) (x .before .loop-test .taken) (x .bit-at .ensures) (y .bit-at2 .ensures) (c .if2 .left) (l .loop .inv .1),
+    )
+
+returns-3 : tie.Need-returns-3 Inv-loop μ-loop
+returns-3 c =
+    let l = c .before in
+    let a = l .before .before .before .before .args in (
+      (λ e. same-all (a .first .now) (a .second .now) (a .k) (l .loop .from) (c .loop-test .left) (l .before .if1 .left) (l .loop .inv .1)),
+      (λ e. let z : _≡_ {A = ℕ} 0 1 = cc in absurd (omega arith)),
+    )
+
+pub same-parent-spec : {M : Type 1} → statement M
+same-parent-spec =
+    tie.close
+    (tie.spec
+    Inv-loop
+    μ-loop
+    returns
+    cast-from
+    loop-holds
+    sub-from
+    bit-at-requires
+    bit-at-requires-2
+    returns-2
+    loop-less
+    loop-again
+    returns-3)
