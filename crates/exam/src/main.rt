@@ -60,22 +60,11 @@ fn put(bytes: &[u8]) {
     }
 }
 
-// Writes the line `refused` and the number.
-fn refuse(number: u64) {
-    let mut line = [0u8; 32];
-    let reply = exam_text::refused_line(number, &mut line);
-    put(&line[..reply.length as usize]);
-}
-
 // Writes the answer to an exam text, or the line of its refusal.
 fn reply(text: &[u8]) {
     let mut out = io::large_buffer();
-    let reply = exam_text::answer(text, &mut out);
-    if reply.number == 0 {
-        put(&out[..reply.length as usize]);
-    } else {
-        refuse(reply.number);
-    }
+    let reply = exam_text::respond(text, &mut out);
+    put(&out[..reply.length as usize]);
 }
 
 fn main() {

@@ -11,7 +11,7 @@ use lib.ListN.{length, getD}
 use lib.Dec.{eqb}
 use Rattle.tree.proofs.Lists.{and-left, and-right}
 use Rattle.exam_text.specs.Characters.{space, newline, decimal}
-use Rattle.exam_text.specs.Sheet.{FiveDigits, numberOf, expanderText}
+use Rattle.exam_text.specs.Sheet.{FiveDigits, expanderNumber, expanderText}
 use Rattle.exam_text.specs.Reader.{isDecimal, leading, isNumber, numberThen, firstNumber, behind, second, third, fourth, hasExpander, isFirstLine, expanderOf, afterFirstLine, lengthRead, thresholdRead, countRead}
 use Rattle.exam_text.proofs.LineFields.{or-cases}
 use Rattle.exam_text.proofs.Numbers.{printed-then, printed-ends, printed-first, printed-behind, read-below, read-text}
@@ -70,7 +70,7 @@ module _ (n t C : ℕ) (hn : FiveDigits n) (ht : FiveDigits t) (hC : FiveDigits 
     then-C : (d : ℕ) → numberThen d (third from-n) ≡ eqb x d
     then-C d = ap (numberThen d) third-is ∙ printed-then C x rest hC k d
 
-  pub first-printed : (e : Option ℕ) → FiveDigits (numberOf e) → (rest : List ℕ) → FirstLine (firstText n t C e rest) n t C e rest
+  pub first-printed : (e : Option ℕ) → FiveDigits (expanderNumber e) → (rest : List ℕ) → FirstLine (firstText n t C e rest) n t C e rest
   unfolding isFirstLine expanderOf afterFirstLine
   first-printed none h rest = record {
     passes = rw (then-n newline rest refl, then-t newline rest refl, then-C newline rest refl newline);
@@ -100,7 +100,7 @@ module _ (n t C : ℕ) (hn : FiveDigits n) (ht : FiveDigits t) (hC : FiveDigits 
 pub record FirstLineRead (cs : List ℕ) : Type 0 where
   pub written : cs ≡ firstText (lengthRead cs) (thresholdRead cs) (countRead cs) (expanderOf cs) (afterFirstLine cs)
   pub t-digits : FiveDigits (thresholdRead cs)
-  pub e-digits : FiveDigits (numberOf (expanderOf cs))
+  pub e-digits : FiveDigits (expanderNumber (expanderOf cs))
 
 -- one character at most follows a number
 one-end : (c d : ℕ) (cs : List ℕ) → numberThen c cs ≡ true → numberThen d cs ≡ true → c ≡ d
@@ -119,7 +119,7 @@ module _ (cs : List ℕ) where
   -- the third number and what follows it, by whether the expander is there
   tail-read : (b : Bool) → hasExpander cs ≡ b → (ended || (b && last-ended)) ≡ true
       → (third cs ≡ decimal (countRead cs) ++ (expanderText (cond b (some (firstNumber (fourth cs))) none) ++ (newline ∷ cond b (behind (fourth cs)) (fourth cs))))
-      × FiveDigits (numberOf (cond b (some (firstNumber (fourth cs))) none))
+      × FiveDigits (expanderNumber (cond b (some (firstNumber (fourth cs))) none))
   tail-read true k o =
       let q : last-ended ≡ true =
       ⊎-elim (λ p. absurd (omega (arith, one-end newline space (third cs) p k))) (λ q. q) (or-cases ended last-ended o) in (

@@ -16,7 +16,8 @@ use Rattle.demands.specs.Honest.{Accepted, recordRead, listRead, Honest}
 use Rattle.demands.proofs.Counted.{few-strings, accepted-record, accepted-list}
 use Rattle.demands.proofs.Demand2.{honest-accepted}
 use Rattle.exam_text.specs.Sheet.{Sheet, strings}
-use Rattle.exam_text.specs.Answer.{answerText, printed, Rounds}
+use Rattle.exam_text.specs.Answer.{answerText}
+use Rattle.exam_text.specs.Printing.{printed, Rounds}
 use Rattle.exam_text.proofs.Space.{exam-record, exam-list}
 use Rattle.exam_text.proofs.Printed.{printed-answer, answer-rounds}
 

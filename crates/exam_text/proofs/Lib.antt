@@ -12,6 +12,7 @@ pub mod Honest
 pub mod TextLengths
 pub mod Longest
 pub mod Exam
+pub mod ExamTheorems
 pub mod LastDigit
 pub mod PrintedParts
 pub mod PrintedBits
@@ -29,4 +30,9 @@ pub mod LineKeys
 pub mod LineReports
 pub mod SheetSearch
 pub mod ExamCauses
+pub mod Responding
+pub mod Outputs
+pub mod SameAnswer
+pub mod Searched
+pub mod Queried
 pub mod Inside

@@ -93,7 +93,8 @@ strings-length n C cs = length-map (linesOf n C cs) (λ l. l .string) ∙ lines-
 abbrev pub lineAt : List ℕ → ℕ → ℕ → ℕ → Line
 lineAt text at n i = lineFrom text (linePlace at n i) n
 
-abbrev blank : Line
+-- a line with nothing in it
+abbrev pub blank : Line
 blank = record { string = []; seed0 = []; seed1 = [] }
 
 module _ (text : List ℕ) (at n C i : ℕ) (h : i < C) where

@@ -1,23 +1,25 @@
--- The longest answer to a sheet within its bounds. Assumes nothing.
+-- A bound on the length of an answer to a sheet within its bounds. Assumes nothing.
 use Prim.Native.Nat.{ℕ, zero, suc, _+_, _*_, _≤_}
 use native.Mathlib.Omega.{arith}
 use native.Mathlib.Nat.{suc-mul, mul-le-mul, div-le-self}
-use mathlib.Core.Path.{_≡_, refl}
+use mathlib.Core.Path.{_≡_, refl, ap}
 use mathlib.Core.List.{List, [], _∷_, _++_}
 use lib.ListN.{length, length-append, length-map}
 use lib.Dec.{leb}
 use Rattle.bits.specs.Lists.{select}
 use Rattle.bits.specs.Strings.{Bits, count}
 use Rattle.tree.specs.Query.{OfLength}
-use Rattle.tree.specs.Search.{start, children, isKept, searchList}
+use Rattle.tree.specs.Search.{start, children, searchList}
 use Rattle.tree.proofs.Lists.{all-map}
 use Rattle.tree.proofs.Children.{children-length, children-longer}
 use Rattle.tree.proofs.Kept.{Survives, list-length}
 use Rattle.tree.proofs.Totals.{count-le, heavy, Stands, stands-start, stands-kept, stands-few, kept-length}
 use Rattle.exam_text.specs.Characters.{space, newline, binary, decimal}
 use Rattle.exam_text.specs.Sheet.{Sheet, strings, Within}
-use Rattle.exam_text.specs.Answer.{prefixLine, heavyLine, heavyLines, queryLines, linesFrom, answerText}
+use Rattle.exam_text.specs.Answer.{prefixLine, heavyLine, heavyLines, prefixLines, queriedFrom, queried, answerText}
+use Rattle.exam_text.specs.Exam.{answerSpace}
 use Rattle.exam_text.proofs.LineFields.{binary-length}
+use Rattle.exam_text.proofs.Printed.{lines-append}
 use Rattle.exam_text.proofs.TextLengths.{decimal-length}
 
 -- ---- one line
@@ -32,11 +34,11 @@ heavy-line-length s = omega (arith, length-append (binary s) (newline ∷ []), b
 
 -- ---- a query, and a list
 
-query-lines-most : (T : Bits → ℕ) → ((q : Bits) → T q ≤ 32) → (k : ℕ) (qs : List Bits) → OfLength k qs → length (queryLines T qs) ≤ length qs * (k + 4)
-unfolding queryLines
+query-lines-most : (T : Bits → ℕ) → ((q : Bits) → T q ≤ 32) → (k : ℕ) (qs : List Bits) → OfLength k qs → length (prefixLines T qs) ≤ length qs * (k + 4)
+unfolding prefixLines
 query-lines-most T small k [] a = omega arith
 query-lines-most T small k (q ∷ qs) a =
-    omega (arith, length-append (prefixLine q (T q)) (queryLines T qs), prefix-line-most q (T q) (small q), a .0, query-lines-most T small k qs (a .1), suc-mul (length qs) (k + 4))
+    omega (arith, length-append (prefixLine q (T q)) (prefixLines T qs), prefix-line-most q (T q) (small q), a .0, query-lines-most T small k qs (a .1), suc-mul (length qs) (k + 4))
 
 heavy-lines-length : (n : ℕ) (ss : List Bits) → OfLength n ss → length (heavyLines ss) ≡ length ss * (n + 7)
 unfolding heavyLines
@@ -63,12 +65,13 @@ most-is = refl
 
 -- At most 32 strings of n bits, and a threshold of at least 1.
 module _ (n t : ℕ) (xs : List Bits) (all : OfLength n xs) (some : 1 ≤ t) (few : length xs ≤ 32) where
-  lines-most : (m k : ℕ) (ps : List Bits) → Stands t xs k ps → k + m ≤ n → length ps ≤ 32 → length (linesFrom (heavy t xs) (count xs) m ps) ≤ linesMost m k
-  unfolding linesFrom linesMost
+  lines-most : (m k : ℕ) (ps : List Bits) → Stands t xs k ps → k + m ≤ n → length ps ≤ 32 → length (prefixLines (count xs) (queriedFrom (heavy t xs) m ps)) ≤ linesMost m k
+  unfolding queriedFrom prefixLines linesMost
   lines-most zero k ps a l h = omega arith
   lines-most (suc m) k ps a l h =
       let qs = children ps in
       let kept = select (heavy t xs) qs in
+      let below = queriedFrom (heavy t xs) m kept in
       let bits = children-longer k ps (all-map (Survives (heavy t xs) k) _ (λ p v. v .0) ps (a .0)) in
       let small : (q : Bits) → count xs q ≤ 32 = λ q. omega (arith, count-le xs q) in
       let v = stands-kept n t xs all k ps a (omega arith) in
@@ -77,7 +80,8 @@ module _ (n t : ℕ) (xs : List Bits) (all : OfLength n xs) (some : 1 ≤ t) (fe
       let same : suc k + 4 ≤ k + 5 = omega arith in
       omega (
         arith,
-        length-append (queryLines (count xs) qs) (linesFrom (heavy t xs) (count xs) m kept),
+        ap length (lines-append (count xs) qs below),
+        length-append (prefixLines (count xs) qs) (prefixLines (count xs) below),
         query-lines-most (count xs) small (suc k) qs bits,
         mul-le-mul wide same,
         lines-most m (suc k) kept v (omega arith) less,
@@ -88,14 +92,14 @@ module _ (n t : ℕ) (xs : List Bits) (all : OfLength n xs) (some : 1 ≤ t) (fe
   list-most zero l = omega arith
   list-most (suc m) l = omega (arith, kept-length n t xs all some m l, div-le-self (length xs) t)
 
--- The answer has at most 43,232 bytes.
-pub answer-most : (s : Sheet) → Within s → 1 ≤ s .t → length (answerText s) ≤ 43232
+-- The space that is named for every answer is enough.
+pub answer-most : (s : Sheet) → Within s → 1 ≤ s .t → length (answerText s) ≤ answerSpace
 unfolding answerText
 answer-most s w some =
     let xs = strings s in
     let few : length xs ≤ 32 = omega (arith, length-map (s .lines) (λ l. l .string), w .lines-most) in
     let ss = searchList (leb (s .t)) (count xs) (s .n) in
-    let lines = linesFrom (isKept (leb (s .t)) (count xs)) (count xs) (s .n) start in
+    let lines = prefixLines (count xs) (queried (s .n) (s .t) xs) in
     let wide : s .n + 7 ≤ 39 = omega (arith, w .n-most) in
     omega (
       arith,

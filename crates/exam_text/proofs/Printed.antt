@@ -25,7 +25,8 @@ use Rattle.tree.proofs.Queries.{packs-length}
 use Rattle.tree.proofs.Kept.{list-length}
 use Rattle.tree.proofs.Totals.{count-le, honest-fits}
 use Rattle.exam_text.specs.Sheet.{Sheet, strings}
-use Rattle.exam_text.specs.Answer.{prefixLine, heavyLine, heavyLines, queryLines, linesFrom, answerText, entryLines, recordLines, listLines, printed, Rounds}
+use Rattle.exam_text.specs.Answer.{prefixLine, heavyLine, heavyLines, prefixLines, queriedFrom, answerText}
+use Rattle.exam_text.specs.Printing.{entryLines, recordLines, listLines, printed, Rounds}
 use Rattle.exam_text.proofs.Rounds.{round-prefix-length, round-count, round-prefixes, round-totals, round-rest, round-inside, round-long}
 
 -- ---- one string of many, packed one after the other
@@ -43,8 +44,8 @@ module _ (T : Bits → ℕ) (small : (q : Bits) → T q < 256 ^ 8) where
   total-first : (q : Bits) (rest : List ℕ) → fromLittle (take 8 (little 8 (T q) ++ rest)) ≡ T q
   total-first q rest = ap fromLittle (take-at (little 8 (T q)) rest 8 (little-length 8 (T q))) ∙ fromLittle-little 8 (T q) (small q)
 
-  entries-printed : (n : ℕ) (qs : List Bits) (x y : List ℕ) → OfLength n qs → entryLines n (length qs) (packs qs ++ x) (totals T qs ++ y) ≡ queryLines T qs
-  unfolding entryLines queryLines packs
+  entries-printed : (n : ℕ) (qs : List Bits) (x y : List ℕ) → OfLength n qs → entryLines n (length qs) (packs qs ++ x) (totals T qs ++ y) ≡ prefixLines T qs
+  unfolding entryLines prefixLines packs
   entries-printed n [] x y a = refl
   entries-printed n (q ∷ qs) x y a =
       let prefixes = append-assoc (pack q) (packs qs) x in
@@ -57,7 +58,7 @@ module _ (T : Bits → ℕ) (small : (q : Bits) → T q < 256 ^ 8) where
 
   -- the lines of a query with its totals, and then those of the rest
   round-printed : (m k : ℕ) (qs : List Bits) (rest : List ℕ) → k < 65536 → length qs < 4294967296 → OfLength (suc k) qs
-      → recordLines (suc m) ((query k qs ++ totals T qs) ++ rest) ≡ queryLines T qs ++ recordLines m rest
+      → recordLines (suc m) ((query k qs ++ totals T qs) ++ rest) ≡ prefixLines T qs ++ recordLines m rest
   unfolding recordLines
   round-printed m k qs rest short few a =
       let bytes = (query k qs ++ totals T qs) ++ rest in
@@ -83,11 +84,22 @@ no-rounds : (m : ℕ) → Rounds m []
 no-rounds zero = refl
 no-rounds (suc m) = inl refl
 
+-- The lines of prefixes and then of others are the lines of all of them.
+pub lines-append : (T : Bits → ℕ) (ps qs : List Bits) → prefixLines T (ps ++ qs) ≡ prefixLines T ps ++ prefixLines T qs
+unfolding prefixLines
+lines-append T [] qs = refl
+lines-append T (p ∷ ps) qs =
+    ap (λ lines. prefixLine p (T p) ++ lines) (lines-append T ps qs) ∙ sym (append-assoc (prefixLine p (T p)) (prefixLines T ps) (prefixLines T qs))
+
 module _ (keeps : Bits → Bool) (T : Bits → ℕ) where
-  lines-nothing : (m : ℕ) → linesFrom keeps T m [] ≡ []
-  unfolding linesFrom queryLines
-  lines-nothing zero = refl
-  lines-nothing (suc m) = lines-nothing m
+  nothing-queried : (m : ℕ) → queriedFrom keeps m [] ≡ []
+  unfolding queriedFrom
+  nothing-queried zero = refl
+  nothing-queried (suc m) = nothing-queried m
+
+  lines-nothing : (m : ℕ) → prefixLines T (queriedFrom keeps m []) ≡ []
+  unfolding prefixLines
+  lines-nothing m = ap (prefixLines T) (nothing-queried m)
 
   few-asked : (m : ℕ) (ps : List Bits) → fitsFrom keeps (suc m) ps ≡ true → length (children ps) < 4294967296
   few-asked m ps fits =
@@ -99,16 +111,17 @@ module _ (keeps : Bits → Bool) (T : Bits → ℕ) where
 
   -- The lines of a record of m levels below prefixes of k bits are those of the rule.
   pub record-printed : ((q : Bits) → T q < 256 ^ 8) → (m k : ℕ) (ps : List Bits) → OfLength k ps → k + m ≤ 256 → fitsFrom keeps m ps ≡ true
-      → recordLines m (recordFrom keeps T m k ps) ≡ linesFrom keeps T m ps
-  unfolding linesFrom
+      → recordLines m (recordFrom keeps T m k ps) ≡ prefixLines T (queriedFrom keeps m ps)
+  unfolding queriedFrom prefixLines
   record-printed small zero k ps a l fits = none-printed zero
   record-printed small (suc m) k [] a l fits = ap (recordLines (suc m)) (record-nothing keeps T (suc m) k) ∙ none-printed (suc m) ∙ sym (lines-nothing (suc m))
   record-printed small (suc m) k (p ∷ ps) a l fits =
       let qs = children (p ∷ ps) in
       let rest = recordFrom keeps T m (suc k) (select keeps qs) in
       round-printed T small m k qs rest (omega arith) (few-asked m (p ∷ ps) fits) (children-longer k (p ∷ ps) a)
-      ∙ ap (λ lines. queryLines T qs ++ lines)
+      ∙ ap (λ lines. prefixLines T qs ++ lines)
       (record-printed small m (suc k) (select keeps qs) (kept-longer keeps k (p ∷ ps) a) (omega arith) (fits-below m (p ∷ ps) fits))
+      ∙ sym (lines-append T qs (queriedFrom keeps m (select keeps qs)))
 
   -- Such a record is at most m queries, each followed by its totals.
   pub record-rounds : (m k : ℕ) (ps : List Bits) → OfLength k ps → k + m ≤ 256 → fitsFrom keeps m ps ≡ true → Rounds m (recordFrom keeps T m k ps)

@@ -10,7 +10,8 @@ use lib.Seq.{take-all, drop-drop}
 use Rattle.bits.specs.Numbers.{fromLittle}
 use Rattle.bits.specs.Packing.{packedLength, unpack}
 use Rattle.tree.specs.Query.{prefixLength, prefixCount}
-use Rattle.exam_text.specs.Answer.{prefixLine, heavyLine, entryLines, queryLength, roundLength, recordLines, listLines, Rounds}
+use Rattle.exam_text.specs.Answer.{prefixLine, heavyLine}
+use Rattle.exam_text.specs.Printing.{entryLines, queryLength, roundLength, recordLines, listLines, Rounds}
 
 -- ---- the prefixes of a round
 

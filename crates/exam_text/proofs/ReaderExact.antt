@@ -2,7 +2,7 @@
 use Prim.Native.Nat.{ℕ, _≤_}
 use native.Mathlib.Omega.{arith}
 use mathlib.Core.Path.{_≡_, refl, sym, ap, _∙_}
-use mathlib.Core.Logic.{_≢_}
+use mathlib.Core.Logic.{_↔_, _≢_, _⊎_, inl, inr}
 use mathlib.Core.Bool.{Bool, true, false, cond, _&&_}
 use mathlib.Core.List.{List}
 use mathlib.Core.Option.{none, some}
@@ -47,13 +47,14 @@ module _ (s : Sheet) (w : Within s) where
   pub sheet-text : (isSheet (text s) ≡ true) × (sheetOf (text s) ≡ s)
   sheet-text = (is-sheet, the-sheet)
 
+  -- The reader reads the text of a sheet within bounds as that sheet.
   pub read-printed : readSheet (text s) ≡ some s
   unfolding readSheet
   read-printed = rw (is-sheet, the-sheet)
 
 -- Two sheets within bounds with the same text are the same.
-pub texts-differ : (s q : Sheet) → Within s → Within q → text s ≡ text q → s ≡ q
-texts-differ s q w v e = sym (sheet-text s w .1) ∙ ap sheetOf e ∙ sheet-text q v .1
+pub text-injective : (s q : Sheet) → Within s → Within q → text s ≡ text q → s ≡ q
+text-injective s q w v e = sym (sheet-text s w .1) ∙ ap sheetOf e ∙ sheet-text q v .1
 
 -- ---- what is read is the text of a sheet
 
@@ -105,6 +106,7 @@ module _ (cs : List ℕ) (e : isSheet cs ≡ true) where
     written,
   )
 
+-- What the reader reads is the text of the sheet that it answers, which is within bounds.
 pub printed-read : (cs : List ℕ) (s : Sheet) → readSheet cs ≡ some s → Within s × (cs ≡ text s)
 unfolding readSheet
 printed-read cs s e = go (isSheet cs) refl e
@@ -119,3 +121,28 @@ not-a-sheet cs e s w q =
     let t : true ≡ false = sym (sheet-text s w .0) ∙ ap isSheet (sym q) ∙ e in
     let z : _≡_ {A = ℕ} 0 1 = cc in
     omega arith
+
+-- The reader is exact: it reads a text as a sheet exactly if the sheet is within bounds and the text is its text.
+pub reader-exact : (cs : List ℕ) (s : Sheet) → (readSheet cs ≡ some s) ↔ (Within s × (cs ≡ text s))
+reader-exact cs s = (printed-read cs s, λ h. ap readSheet (h .1) ∙ read-printed s (h .0))
+
+-- the bytes are the text of a sheet within bounds, or of none
+abbrev pub SheetOrNone : List ℕ → Type 0
+SheetOrNone cs = ((s : Sheet) × Within s × (cs ≡ text s)) ⊎ ((s : Sheet) → Within s → cs ≢ text s)
+
+-- Of any bytes one of both holds.
+pub sheet-or-none : (cs : List ℕ) → SheetOrNone cs
+sheet-or-none cs = go (isSheet cs) refl
+  where
+    go : (b : Bool) → isSheet cs ≡ b → SheetOrNone cs
+    go true e = inl (sheetOf cs, sheet-within cs e .0, sheet-within cs e .1)
+    go false e = inr (not-a-sheet cs e)
+
+-- The text of no sheet within bounds is read as none.
+pub none-read : (cs : List ℕ) → ((s : Sheet) → Within s → cs ≢ text s) → readSheet cs ≡ none
+unfolding readSheet
+none-read cs h = go (isSheet cs) refl
+  where
+    go : (b : Bool) → isSheet cs ≡ b → cond b (some (sheetOf cs)) none ≡ none
+    go true e = absurd (h (sheetOf cs) (sheet-within cs e .0) (sheet-within cs e .1))
+    go false e = refl

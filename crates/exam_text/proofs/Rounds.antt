@@ -14,7 +14,7 @@ use Rattle.tree.specs.Query.{OfLength, packs, query, prefixLength, prefixCount}
 use Rattle.tree.specs.Search.{totals}
 use Rattle.tree.proofs.Queries.{query-length, read-length, read-count}
 use Rattle.tree.proofs.Lengths.{totals-length}
-use Rattle.exam_text.specs.Answer.{queryLength, roundLength}
+use Rattle.exam_text.specs.Printing.{queryLength, roundLength}
 
 -- what stands within the first part is read of it alone
 window-first : (n at : ℕ) (l rest : List ℕ) → at + n ≤ length l → window n at (l ++ rest) ≡ window n at l

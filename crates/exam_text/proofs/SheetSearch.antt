@@ -12,7 +12,8 @@ use Rattle.search.specs.Search.{Lent}
 use Rattle.demands.specs.Honest.{Accepted, recordRead, listRead, Honest}
 use Rattle.exam_text.specs.Sheet.{Line, strings}
 use Rattle.exam_text.specs.Reader.{areLines, afterFirstLine, isSheet, sheetOf}
-use Rattle.exam_text.specs.Answer.{answerText, printed, Rounds}
+use Rattle.exam_text.specs.Answer.{answerText}
+use Rattle.exam_text.specs.Printing.{printed, Rounds}
 use Rattle.exam_text.proofs.ReaderExact.{sheet-within}
 use Rattle.exam_text.proofs.Placed as placed
 use Rattle.exam_text.proofs.Honest.{exam-accepted, answer-printed, answer-read}

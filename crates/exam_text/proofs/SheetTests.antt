@@ -7,7 +7,7 @@ use mathlib.Core.List.{List}
 use borrow.Author.Tests.{le-leb, lt-leb}
 use lib.ListN.{length, drop, length-drop}
 use lib.Dec.{leb}
-use Rattle.exam_text.specs.Sheet.{numberOf}
+use Rattle.exam_text.specs.Sheet.{expanderNumber}
 use Rattle.exam_text.specs.Reader.{isFirstLine, afterFirstLine, lineLength, areLines, linesOf, isSheet, sheetOf}
 use Rattle.exam_text.specs.Reading.{FirstLineSays}
 use Rattle.exam_text.proofs.LineTests.{lines-length}
@@ -43,7 +43,7 @@ module _ (t : List ℕ) where
           pub lines-decide : isSheet t ≡ areLines n count (drop here t)
           lines-decide = left ∙ rw (le-leb n 32 b, le-leb count 32 d)
 
-          pub sheet-says : (n ≡ sheetOf t .n) × (u ≡ sheetOf t .t) × (e ≡ numberOf (sheetOf t .expander)) × (count ≡ length (sheetOf t .lines))
+          pub sheet-says : (n ≡ sheetOf t .n) × (u ≡ sheetOf t .t) × (e ≡ expanderNumber (sheetOf t .expander)) × (count ≡ length (sheetOf t .lines))
           unfolding sheetOf
           sheet-says = (s .n-read, s .t-read, s .expander-read, s .count-read ∙ sym (lines-count _ _ (afterFirstLine t)))
 

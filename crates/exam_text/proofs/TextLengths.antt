@@ -14,7 +14,7 @@ use Rattle.bits.specs.Strings.{Bits}
 use Rattle.bits.specs.Numbers.{Bytes}
 use Rattle.tree.specs.Query.{OfLength}
 use Rattle.exam_text.specs.Characters.{glyph, decimalIn}
-use Rattle.exam_text.specs.Sheet.{Line, Sheet, strings, numberOf, lineText, linesText, expanderText, text, FiveDigits}
+use Rattle.exam_text.specs.Sheet.{Line, Sheet, strings, expanderNumber, lineText, linesText, expanderText, text, FiveDigits}
 use Rattle.exam_text.proofs.LinesText.{Seeds, line-length}
 
 -- ---- characters
@@ -47,12 +47,12 @@ lines-length n (l ∷ ls) bits seeds =
       suc-mul (length ls) (n + 67),
     )
 
-expander-length : (e : Option ℕ) → FiveDigits (numberOf e) → length (expanderText e) ≤ 6
+expander-length : (e : Option ℕ) → FiveDigits (expanderNumber e) → length (expanderText e) ≤ 6
 expander-length none h = omega arith
 expander-length (some e) h = omega (arith, decimal-length 4 20 e h)
 
 -- A sheet that is within the other bounds of a text is within that of its length.
-pub text-most : (s : Sheet) → s .n ≤ 32 → length (s .lines) ≤ 32 → FiveDigits (s .t) → FiveDigits (numberOf (s .expander)) → OfLength (s .n) (strings s)
+pub text-most : (s : Sheet) → s .n ≤ 32 → length (s .lines) ≤ 32 → FiveDigits (s .t) → FiveDigits (expanderNumber (s .expander)) → OfLength (s .n) (strings s)
     → All Seeds (s .lines) → length (text s) ≤ 4096
 unfolding text
 text-most s short few digits known bits seeds =

@@ -1,87 +1,50 @@
 -- The answer to an exam sheet, as text: document 01, 'Exam program'. Assumes nothing.
-use Prim.Native.Nat.{ℕ, zero, suc, _+_, _*_, _/_, _≤_}
-use mathlib.Core.Path.{_≡_}
-use mathlib.Core.Bool.{Bool, cond}
+use Prim.Native.Nat.{ℕ, zero, suc}
+use mathlib.Core.Bool.{Bool}
 use mathlib.Core.List.{List, [], _∷_, _++_}
-use mathlib.Core.Logic.{_⊎_}
-use lib.ListN.{length, take, drop}
-use lib.Dec.{leb, eqb}
+use lib.Dec.{leb}
 use Rattle.bits.specs.Lists.{select}
 use Rattle.bits.specs.Strings.{Bits, count}
-use Rattle.bits.specs.Numbers.{fromLittle}
-use Rattle.bits.specs.Packing.{packedLength, unpack}
-use Rattle.tree.specs.Query.{prefixLength, prefixCount}
-use Rattle.tree.specs.Search.{start, children, isKept, searchList}
+use Rattle.tree.specs.Search.{start, children, isKept}
+use Rattle.tree.specs.Cut.{honestList}
 use Rattle.exam_text.specs.Characters.{space, newline, binary, decimal}
 use Rattle.exam_text.specs.Sheet.{Sheet, strings}
+
+-- ---- lines
 
 -- the line of a queried prefix: its bits and its decimal total
 abbrev pub prefixLine : Bits → ℕ → List ℕ
 prefixLine q total = binary q ++ (space ∷ decimal total ++ (newline ∷ []))
 
+-- a line for each of the prefixes, where T gives the totals
+unfoldable pub prefixLines : (Bits → ℕ) → List Bits → List ℕ
+prefixLines T [] = []
+prefixLines T (q ∷ qs) = prefixLine q (T q) ++ prefixLines T qs
+
 -- the word `heavy`
-abbrev pub heavy : List ℕ
-heavy = 104 ∷ 101 ∷ 97 ∷ 118 ∷ 121 ∷ []
+abbrev pub heavyWord : List ℕ
+heavyWord = 104 ∷ 101 ∷ 97 ∷ 118 ∷ 121 ∷ []
 
 -- the line of a heavy string: `heavy` and the string
 abbrev pub heavyLine : Bits → List ℕ
-heavyLine s = heavy ++ (space ∷ binary s ++ (newline ∷ []))
+heavyLine s = heavyWord ++ (space ∷ binary s ++ (newline ∷ []))
 
+-- a line for each of the heavy strings
 unfoldable pub heavyLines : List Bits → List ℕ
 heavyLines [] = []
 heavyLines (s ∷ ss) = heavyLine s ++ heavyLines ss
 
 -- ---- the answer
 
--- a line for each prefix of a query, where T gives the totals
-unfoldable pub queryLines : (Bits → ℕ) → List Bits → List ℕ
-queryLines T [] = []
-queryLines T (q ∷ qs) = prefixLine q (T q) ++ queryLines T qs
+-- the prefixes of m queries, the first for both children of the prefixes ps; `keeps` tells which prefixes are kept
+unfoldable pub queriedFrom : (Bits → Bool) → ℕ → List Bits → List Bits
+queriedFrom keeps zero ps = []
+queriedFrom keeps (suc m) ps = children ps ++ queriedFrom keeps m (select keeps (children ps))
 
--- the lines of m queries, the first for the children of the prefixes ps; `keeps` tells which prefixes are kept
-unfoldable pub linesFrom : (Bits → Bool) → (Bits → ℕ) → ℕ → List Bits → List ℕ
-linesFrom keeps T zero ps = []
-linesFrom keeps T (suc m) ps = queryLines T (children ps) ++ linesFrom keeps T m (select keeps (children ps))
+-- the queried prefixes of a search for strings of n bits with threshold t among the strings xs, in the order of the record
+abbrev pub queried : ℕ → ℕ → List Bits → List Bits
+queried n t xs = queriedFrom (isKept (leb t) (count xs)) n start
 
--- a line for each queried prefix, in the order of the record; then the heavy strings, a line each
+-- a line for each queried prefix, with its total; then the heavy strings, a line each
 unfoldable pub answerText : Sheet → List ℕ
-answerText s =
-    linesFrom (isKept (leb (s .t)) (count (strings s))) (count (strings s)) (s .n) start
-    ++ heavyLines (searchList (leb (s .t)) (count (strings s)) (s .n))
-
--- ---- the same, printed from the bytes of a record and of a list
-
--- the lines of c prefixes of k bits, packed one after the other in ps, whose totals are in ts
-unfoldable pub entryLines : ℕ → ℕ → List ℕ → List ℕ → List ℕ
-entryLines k zero ps ts = []
-entryLines k (suc c) ps ts =
-    prefixLine (unpack k (take (packedLength k) ps)) (fromLittle (take 8 ts)) ++ entryLines k c (drop (packedLength k) ps) (drop 8 ts)
-
--- how long the query is with which a record begins; and with its totals
-abbrev pub queryLength : List ℕ → ℕ
-queryLength bytes = 6 + prefixCount bytes * packedLength (prefixLength bytes)
-
-abbrev pub roundLength : List ℕ → ℕ
-roundLength bytes = queryLength bytes + prefixCount bytes * 8
-
--- the lines of a record of at most m queries
-unfoldable pub recordLines : ℕ → List ℕ → List ℕ
-recordLines zero bytes = []
-recordLines (suc m) bytes =
-    cond (eqb (length bytes) 0) []
-    (entryLines (prefixLength bytes) (prefixCount bytes) (drop 6 bytes) (drop (queryLength bytes) bytes) ++ recordLines m (drop (roundLength bytes) bytes))
-
--- the lines of c heavy strings of n bits, packed one after the other
-unfoldable pub listLines : ℕ → ℕ → List ℕ → List ℕ
-listLines n zero bytes = []
-listLines n (suc c) bytes = heavyLine (unpack n (take (packedLength n) bytes)) ++ listLines n c (drop (packedLength n) bytes)
-
--- what is printed of a search for strings of n bits that left this record and this list
-unfoldable pub printed : ℕ → List ℕ → List ℕ → List ℕ
-printed n recorded listed = recordLines n recorded ++ listLines n (length listed / packedLength n) listed
-
--- the bytes are at most m queries, of prefixes of at most 256 bits, each followed by its totals
-abbrev pub Rounds : ℕ → List ℕ → Type 0
-Rounds zero bytes = length bytes ≡ 0
-Rounds (suc m) bytes =
-    (length bytes ≡ 0) ⊎ ((prefixLength bytes ≤ 256) × (roundLength bytes ≤ length bytes) × Rounds m (drop (roundLength bytes) bytes))
+answerText s = prefixLines (count (strings s)) (queried (s .n) (s .t) (strings s)) ++ heavyLines (honestList (s .n) (s .t) (strings s))

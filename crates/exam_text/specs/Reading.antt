@@ -6,7 +6,7 @@ use mathlib.Core.List.{List}
 use mathlib.Core.Option.{Option, none, some}
 use lib.ListN.{length, drop}
 use Rattle.exam_text.specs.Characters.{space, newline}
-use Rattle.exam_text.specs.Sheet.{numberOf}
+use Rattle.exam_text.specs.Sheet.{expanderNumber}
 use Rattle.exam_text.specs.Reader.{numberThen, firstNumber, behind, isFirstLine, lengthRead, thresholdRead, countRead, expanderOf, afterFirstLine}
 
 -- the place `here` of a text is where the rest begins
@@ -37,7 +37,7 @@ afterEnd cs = cond (numberThen space cs) (behind (behind cs)) (behind cs)
 -- what such an end says
 pub record EndSays (text cs : List ℕ) (count expander here : ℕ) : Type 0 where
   pub count-read : count ≡ firstNumber cs
-  pub expander-read : expander ≡ numberOf (endExpander cs)
+  pub expander-read : expander ≡ expanderNumber (endExpander cs)
   pub rest : Rest text here (afterEnd cs)
 
 -- the end of a first line at a place
@@ -50,7 +50,7 @@ pub record FirstLineSays (text : List ℕ) (n t count expander here : ℕ) : Typ
   pub n-read : n ≡ lengthRead text
   pub t-read : t ≡ thresholdRead text
   pub count-read : count ≡ countRead text
-  pub expander-read : expander ≡ numberOf (expanderOf text)
+  pub expander-read : expander ≡ expanderNumber (expanderOf text)
   pub rest : Rest text here (afterFirstLine text)
 
 -- a first line

@@ -28,9 +28,9 @@ abbrev pub strings : Sheet → List Bits
 strings s = map (λ l. l .string) (s .lines)
 
 -- the expander's number; a missing one means 2
-abbrev pub numberOf : Option ℕ → ℕ
-numberOf none = 2
-numberOf (some e) = e
+abbrev pub expanderNumber : Option ℕ → ℕ
+expanderNumber none = 2
+expanderNumber (some e) = e
 
 -- ---- the text
 
@@ -63,7 +63,7 @@ pub record Within (s : Sheet) : Type 0 where
   pub n-most : s .n ≤ 32
   pub lines-most : length (s .lines) ≤ 32
   pub t-digits : FiveDigits (s .t)
-  pub expander-digits : FiveDigits (numberOf (s .expander))
+  pub expander-digits : FiveDigits (expanderNumber (s .expander))
   pub n-bits : OfLength (s .n) (strings s)
   pub seeds : All (λ l. Bytes 16 (l .seed0) × Bytes 16 (l .seed1)) (s .lines)
   pub most : length (text s) ≤ 4096

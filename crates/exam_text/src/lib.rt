@@ -7,7 +7,7 @@ use calls::Reply;
 ghost use mathlib.Core.Path.{_≡_};
 ghost use lib.ListN.{length};
 ghost use Rattle.bits.specs.Places.{overlay};
-ghost use Rattle.exam_text.specs.Exam.{examOutcome, refusedOutcome};
+ghost use Rattle.exam_text.specs.Exam.{examOutcome, refusedOutcome, respondOutcome};
 
 mod answer_lines;
 mod decimal;
@@ -72,4 +72,20 @@ pub fn refused_line(number: u64, out: &mut [u8]) -> Reply
         number: 0,
         length: size as u64,
     }
+}
+
+// Writes the whole output for an exam text: the answer, or the line of the refusal; refuses with 11 where it does not fit.
+pub fn respond(text: &[u8], out: &mut [u8]) -> Reply
+    ensures number { λ r. ⌜ r .number ≡ respondOutcome (now (text .entry)) (length (now (out .entry))) .number ⌝ }
+    ensures written { λ r. ⌜ r .length ≡ length (respondOutcome (now (text .entry)) (length (now (out .entry))) .written) ⌝ }
+    ensures space { λ _. ⌜ now (out .exit) ≡ overlay (respondOutcome (now (text .entry)) (length (now (out .entry))) .written) (now (out .entry)) ⌝ }
+{
+    let reply = answer(text, out);
+    if reply.number == 0 {
+        return reply;
+    }
+    if reply.number == 11 {
+        return reply;
+    }
+    refused_line(reply.number, out)
 }

@@ -12,7 +12,8 @@ ghost use Rattle.bits.specs.Numbers.{fromLittle};
 ghost use Rattle.bits.specs.Packing.{packedLength, unpack};
 ghost use Rattle.bits.specs.Places.{putAt, overlay};
 ghost use Rattle.tree.specs.Query.{prefixLength, prefixCount};
-ghost use Rattle.exam_text.specs.Answer.{prefixLine, heavyLine, entryLines, queryLength, roundLength, recordLines, listLines, printed, Rounds};
+ghost use Rattle.exam_text.specs.Answer.{prefixLine, heavyLine};
+ghost use Rattle.exam_text.specs.Printing.{entryLines, queryLength, roundLength, recordLines, listLines, printed, Rounds};
 
 // ---- a round of a record
 

@@ -8,7 +8,7 @@ ghost use lib.ListN.{length, getD, take, drop};
 ghost use Rattle.bits.specs.Lists.{digit};
 ghost use Rattle.bits.specs.Numbers.{Bytes};
 ghost use Rattle.bits.specs.Packing.{packedLength, value, pack};
-ghost use Rattle.exam_text.specs.Sheet.{numberOf};
+ghost use Rattle.exam_text.specs.Sheet.{expanderNumber};
 ghost use Rattle.exam_text.specs.Reader.{afterFirstLine, isHex, hexValue, areHex, bytesRead, bitsRead, lineLength, isSheet, sheetOf};
 
 // What a text says on its first line, and where its other lines begin; all 0 where it is not the text of a sheet.
@@ -38,7 +38,7 @@ fn no_sheet() -> Heading
 // Reads a text: whether it is the text of a sheet, and its first line.
 pub(crate) fn read_heading(text: &[u8]) -> Heading
     ensures { λ r. ⌜ r .«is_sheet» ≡ isSheet (now (text .entry)) ⌝ }
-    ensures { λ r. ⌜ (r .«is_sheet» ≡ true → (r .n ≡ sheetOf (now (text .entry)) .n) × (r .t ≡ sheetOf (now (text .entry)) .t) × (r .expander ≡ numberOf (sheetOf (now (text .entry)) .expander)) × (r .count ≡ length (sheetOf (now (text .entry)) .lines))) ⌝ }
+    ensures { λ r. ⌜ (r .«is_sheet» ≡ true → (r .n ≡ sheetOf (now (text .entry)) .n) × (r .t ≡ sheetOf (now (text .entry)) .t) × (r .expander ≡ expanderNumber (sheetOf (now (text .entry)) .expander)) × (r .count ≡ length (sheetOf (now (text .entry)) .lines))) ⌝ }
     ensures { λ r. ⌜ (r .«is_sheet» ≡ true → (r .n ≤ 32) × (r .count ≤ 32) × (r .lines + r .count * lineLength (r .n) ≡ length (now (text .entry))) × (drop (r .lines) (now (text .entry)) ≡ afterFirstLine (now (text .entry)))) ⌝ }
 {
     if 4096 < text.len() {

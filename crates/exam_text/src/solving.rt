@@ -16,7 +16,8 @@ ghost use Rattle.expander.specs.Expander.{isExpander};
 ghost use Rattle.search.specs.Search.{lent};
 ghost use Rattle.demands.specs.Honest.{Accepted, recordRead, listRead};
 ghost use Rattle.exam_text.specs.Reader.{isSheet, sheetOf, afterFirstLine};
-ghost use Rattle.exam_text.specs.Answer.{answerText, printed, Rounds};
+ghost use Rattle.exam_text.specs.Answer.{answerText};
+ghost use Rattle.exam_text.specs.Printing.{printed, Rounds};
 
 // Prints the record and the list of a search that is accepted; both servers are lent the same public shares.
 fn search_printed(

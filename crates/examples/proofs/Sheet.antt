@@ -14,6 +14,7 @@ use Rattle.bits.specs.Numbers.{little, fromLittle, big, fromBig}
 use Rattle.bits.specs.Packing.{value, packIn, pack, digits, bitsOf, unpack, spareZero}
 use Rattle.bits.specs.Places.{window, putAt}
 use Rattle.calls.specs.Bounds.{lengthOutside, thresholdOutside}
+use Rattle.calls.specs.Causes.{accepted}
 use Rattle.calls.proofs.Judged.{_&_}
 use Rattle.expander.specs.Expander.{isExpander, classroomBlock, xorBytes}
 use Rattle.point.specs.Node.{controlBit, cleared, child, final, payloadOf}
@@ -29,9 +30,11 @@ use Rattle.idpf.specs.Key.{keyBytes, keyOutcome}
 use Rattle.idpf.specs.Reports.{sumBelow, lentShare, serverSum}
 use Rattle.idpf.specs.Share.{shareBytes, shareOutcome}
 use Rattle.exam_text.specs.Characters.{binary, decimalIn}
-use Rattle.exam_text.specs.Sheet.{Line, Sheet, strings, numberOf}
-use Rattle.exam_text.specs.Answer.{heavyLines, queryLines, linesFrom, answerText}
-use Rattle.exam_text.proofs.Exam.{sheet-outcome, same-answer}
+use Rattle.exam_text.specs.Sheet.{Line, Sheet, strings, expanderNumber, text}
+use Rattle.exam_text.specs.Exam.{examOutcome, answerSpace, outputFor, output}
+use Rattle.exam_text.specs.Answer.{heavyLines, prefixLines, queriedFrom, answerText}
+use Rattle.exam_text.proofs.Exam.{sheet-outcome}
+use Rattle.exam_text.proofs.SameAnswer.{same-answer}
 use Rattle.examples.specs.Sheet.{Holds, searchOf, numberWith, outputOf, table, s01, s11}
 use Rattle.demands.proofs.Counted.{accepted-record, accepted-list}
 use Rattle.demands.proofs.Accepting.{listed-number}
@@ -53,7 +56,7 @@ records = tt
 
 -- Naming `answers` opens every definition that an answer runs through.
 answers : Unit {0}
-unfolding binary decimalIn heavyLines queryLines linesFrom answerText
+unfolding binary decimalIn heavyLines prefixLines queriedFrom answerText
 answers = tt
 
 -- A search row holds where the record and the list of its strings are those of the row.
@@ -72,11 +75,14 @@ number-row n t xs room from to least most few s honest bits threshold known area
     ∙ ap₂ (λ (r m : ℕ). cond (ltb r m) 11 0) area (ap₂ (λ (m u : ℕ). length (honestRecord m u xs)) bits threshold)
 
 -- An output row holds where n, t and the expander pass, and the answer to one sheet of these strings is that of the row.
-output-row : (d : Sheet) (bytes : List ℕ) → lengthOutside (d .n) ≡ false → thresholdOutside (d .t) ≡ false → isExpander (numberOf (d .expander)) ≡ true
-    → answerText d ≡ bytes → Holds (outputOf (d .n) (d .t) (d .expander) (strings d) bytes)
-output-row d bytes n-in t-in known answer s within same-n same-t same-expander same-strings room fits =
+output-row : (d : Sheet) (bytes : List ℕ) → lengthOutside (d .n) ≡ false → thresholdOutside (d .t) ≡ false → isExpander (expanderNumber (d .expander)) ≡ true
+    → answerText d ≡ bytes → length bytes ≤ answerSpace → Holds (outputOf (d .n) (d .t) (d .expander) (strings d) bytes)
+unfolding output
+output-row d bytes n-in t-in known answer fits s within same-n same-t same-expander same-strings =
     let same : answerText s ≡ bytes = same-answer s d same-n same-t same-strings ∙ answer in
-    sheet-outcome s within room ∙ rw (same, same-n, same-t, same-expander, n-in, t-in, known, le-ltb room (length bytes) fits)
+    let accepts : examOutcome (text s) answerSpace ≡ accepted bytes =
+    sheet-outcome s within answerSpace ∙ rw (same, same-n, same-t, same-expander, n-in, t-in, known, le-ltb answerSpace (length bytes) fits) in
+    ap outputFor accepts
 
 -- D's strings in an exam sheet; its seeds do not matter
 sheetD : Sheet
@@ -95,7 +101,7 @@ sheet =
     -- D
     & search-row 2 2 _ _ _ refl refl
     & refl
-    & output-row sheetD _ refl refl refl refl
+    & output-row sheetD _ refl refl refl refl (omega arith)
     -- E
     & search-row 2 2 _ _ _ refl refl
     & refl

@@ -21,7 +21,7 @@ use Rattle.idpf.specs.Share.{shareOutcome}
 use Rattle.search.specs.Search.{Lent, searchNumber}
 use Rattle.demands.specs.Honest.{Accepted, recordRead, listRead, Honest}
 use Rattle.exam_text.specs.Sheet.{Sheet, strings, text, Within}
-use Rattle.exam_text.specs.Exam.{examOutcome}
+use Rattle.exam_text.specs.Exam.{output}
 
 -- A key of the sheet: the number of its expander, its string and its root seeds.
 pub record Key : Type 0 where
@@ -59,7 +59,7 @@ pub data Row : Type 0 where
   numberWith : ℕ → ℕ → List Bits → ℕ → ℕ → Row
   -- t and strings, and their cut strings
   cutsOf : ℕ → List Bits → List Bits → Row
-  -- n, t, the expander and strings, and the whole output for every exam sheet of them, whatever its seeds, in any space that holds it
+  -- n, t, the expander and strings, and the whole output for every exam sheet of them, whatever its seeds
   outputOf : ℕ → ℕ → Option ℕ → List Bits → List ℕ → Row
 
 -- what a row says
@@ -76,8 +76,7 @@ Holds (numberWith n t xs room number) =
     (s : Lent) → Honest s xs → s .n ≡ n → s .t ≡ t → isExpander (s .expander) ≡ true → length (s .recordArea) ≡ room → listSpace n t (length xs) ≤ length (s .listArea)
     → searchNumber s ≡ number
 Holds (cutsOf t xs ss) = cuts t xs ≡ ss
-Holds (outputOf n t e xs bytes) =
-    (s : Sheet) → Within s → s .n ≡ n → s .t ≡ t → s .expander ≡ e → strings s ≡ xs → (room : ℕ) → length bytes ≤ room → examOutcome (text s) room ≡ accepted bytes
+Holds (outputOf n t e xs bytes) = (s : Sheet) → Within s → s .n ≡ n → s .t ≡ t → s .expander ≡ e → strings s ≡ xs → output (text s) ≡ bytes
 
 -- s0 all zero
 abbrev pub zeroSeed : List ℕ

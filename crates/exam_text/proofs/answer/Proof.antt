@@ -7,7 +7,7 @@ use native.Mathlib.Omega.{arith}
 use borrow.Author.Tests.{not-true, not-false}
 use lib.ListN.{length}
 use Rattle.expander.specs.Expander.{isExpander}
-use Rattle.exam_text.specs.Sheet.{numberOf}
+use Rattle.exam_text.specs.Sheet.{expanderNumber}
 use Rattle.exam_text.specs.Reader.{isSheet, sheetOf}
 use Rattle.exam_text.proofs.ExamCauses.{no-sheet, no-bits, no-threshold, high-threshold, no-expander, last-cause, refused-reply}
 use borrow.Author.Needs.{needs}
@@ -37,7 +37,7 @@ read e = sym (heading e .read-heading .ensures .0) ∙ told e
 
 says : (e : tie.Else1)
     → let r = heading e .read-heading .result in
-    (r .n ≡ sheetOf (text e) .n) × (r .t ≡ sheetOf (text e) .t) × (r .expander ≡ numberOf (sheetOf (text e) .expander)) × (r .count ≡ length (sheetOf (text e) .lines))
+    (r .n ≡ sheetOf (text e) .n) × (r .t ≡ sheetOf (text e) .t) × (r .expander ≡ expanderNumber (sheetOf (text e) .expander)) × (r .count ≡ length (sheetOf (text e) .lines))
 says e = heading e .read-heading .ensures .1 .0 (told e)
 
 -- n is from 1 to 32
@@ -55,7 +55,7 @@ most : (e : tie.Else4) → sheetOf (text (e .before .before .before)) .t ≤ 655
 most e = omega (arith, e .if4 .left, says (e .before .before .before) .1)
 
 -- what the test of the expander answers
-answered : (e : tie.After-is-expander) → let o = e .before .before .before .before in e .is-expander .result ≡ isExpander (numberOf (sheetOf (text o) .expander))
+answered : (e : tie.After-is-expander) → let o = e .before .before .before .before in e .is-expander .result ≡ isExpander (expanderNumber (sheetOf (text o) .expander))
 answered e = let o = e .before .before .before .before in e .is-expander .ensures ∙ ap isExpander (says o .2)
 
 -- ---- the needs

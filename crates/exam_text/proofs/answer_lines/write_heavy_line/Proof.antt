@@ -6,7 +6,7 @@ use mathlib.Core.List.{List, [], _∷_}
 use borrow.Author.Needs.{needs}
 use Rattle.bits.specs.Packing.{unpack}
 use Rattle.exam_text.specs.Characters.{space, newline, binary}
-use Rattle.exam_text.specs.Answer.{heavy}
+use Rattle.exam_text.specs.Answer.{heavyWord}
 use Rattle.exam_text.proofs.PrintedParts.{Wrote, second-room, third-room, fourth-room, four-written}
 use Rattle.exam_text.proofs.answer_lines.write_heavy_line.Statement.{statement}
 use Rattle.exam_text.proofs.answer_lines.write_heavy_line.Tie as tie
@@ -19,7 +19,7 @@ abbrev string : tie.Start → List ℕ
 string s = binary (unpack (s .args .n) (s .args .packed .now))
 
 -- the word is written
-word : (w : tie.After-copy) → Wrote (start w .args .out .now) (start w .args .at) heavy (w .copy .last .1 .0) (start w .args .at + 5)
+word : (w : tie.After-copy) → Wrote (start w .args .out .now) (start w .args .at) heavyWord (w .copy .last .1 .0) (start w .args .at + 5)
 word w = (refl, w .copy .ensures)
 
 slice-aggregate-copy : tie.Need-slice-aggregate-copy
@@ -32,20 +32,20 @@ add-put : tie.Need-add-put
 add-put c =
     let w = c .before .before .before in
     let s = start w in
-    omega (arith, second-room (s .args .out .now) (s .args .at) heavy (space ∷ []) (string s) (newline ∷ []) (s .pre .1) _ _ (word w))
+    omega (arith, second-room (s .args .out .now) (s .args .at) heavyWord (space ∷ []) (string s) (newline ∷ []) (s .pre .1) _ _ (word w))
 
 put-requires : tie.Need-put-requires
 put-requires c κs =
     let w = c .before .before .before in
     let s = start w in
-    omega (arith, second-room (s .args .out .now) (s .args .at) heavy (space ∷ []) (string s) (newline ∷ []) (s .pre .1) _ _ (word w))
+    omega (arith, second-room (s .args .out .now) (s .args .at) heavyWord (space ∷ []) (string s) (newline ∷ []) (s .pre .1) _ _ (word w))
 
 write-bits-requires : tie.Need-write-bits-requires
 write-bits-requires c κs =
     let p = c .before .before .before in
     let w = p .before .before .before .before in
     let s = start w in
-    (s .pre .0, third-room (s .args .out .now) (s .args .at) heavy (space ∷ []) (string s) (newline ∷ []) (s .pre .1) _ _ (word w) _ _ (p .put .ensures))
+    (s .pre .0, third-room (s .args .out .now) (s .args .at) heavyWord (space ∷ []) (string s) (newline ∷ []) (s .pre .1) _ _ (word w) _ _ (p .put .ensures))
 
 put-requires-2 : tie.Need-put-requires-2
 put-requires-2 c κs =
@@ -55,7 +55,7 @@ put-requires-2 c κs =
     let s = start w in
     omega (
       arith,
-      fourth-room (s .args .out .now) (s .args .at) heavy (space ∷ []) (string s) (newline ∷ []) (s .pre .1) _ _ (word w) _ _ (p .put .ensures) _ _
+      fourth-room (s .args .out .now) (s .args .at) heavyWord (space ∷ []) (string s) (newline ∷ []) (s .pre .1) _ _ (word w) _ _ (p .put .ensures) _ _
           (b .write-bits .ensures),
     )
 
@@ -69,7 +69,7 @@ returns c =
     let p = b .before .before .before .before in
     let w = p .before .before .before .before in
     let s = start w in
-    four-written (s .args .out .now) (s .args .at) heavy (space ∷ []) (string s) (newline ∷ []) (s .pre .1) _ _ (word w) _ _ (p .put .ensures) _ _
+    four-written (s .args .out .now) (s .args .at) heavyWord (space ∷ []) (string s) (newline ∷ []) (s .pre .1) _ _ (word w) _ _ (p .put .ensures) _ _
     (b .write-bits .ensures) _ _ (q .put2 .ensures)
 
 pub write-heavy-line-spec : {M : Type 1} → statement M

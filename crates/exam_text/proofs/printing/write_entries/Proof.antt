@@ -9,7 +9,8 @@ use Rattle.bits.specs.Numbers.{fromLittle}
 use Rattle.bits.specs.Packing.{unpack}
 use Rattle.bits.proofs.Places.{Grown, grown-start, grown-room, grown-more}
 use Rattle.search.proofs.Pieces.{next-room, grown-length}
-use Rattle.exam_text.specs.Answer.{prefixLine, entryLines}
+use Rattle.exam_text.specs.Answer.{prefixLine}
+use Rattle.exam_text.specs.Printing.{entryLines}
 use Rattle.exam_text.proofs.PrintedParts.{all-written}
 use Rattle.exam_text.proofs.PrintedLines.{entries-none, entries-step}
 use Rattle.exam_text.proofs.printing.write_entries.Statement.{statement}

@@ -9,7 +9,8 @@ use lib.ListN.{length, take, drop}
 use Rattle.bits.specs.Packing.{packedLength, unpack}
 use Rattle.bits.proofs.Places.{Grown, grown-start, grown-room, grown-more}
 use Rattle.search.proofs.Pieces.{next-room, grown-length}
-use Rattle.exam_text.specs.Answer.{heavyLine, listLines}
+use Rattle.exam_text.specs.Answer.{heavyLine}
+use Rattle.exam_text.specs.Printing.{listLines}
 use Rattle.exam_text.proofs.PrintedParts.{all-written}
 use Rattle.exam_text.proofs.PrintedLines.{list-none, list-step}
 use Rattle.exam_text.proofs.printing.write_list.Statement.{statement}

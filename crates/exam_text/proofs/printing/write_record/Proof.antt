@@ -8,7 +8,7 @@ use borrow.Author.Needs.{needs}
 use lib.ListN.{length, drop, length-drop}
 use Rattle.bits.proofs.Places.{Grown, grown-start, grown-room, grown-more}
 use Rattle.search.proofs.Pieces.{grown-length}
-use Rattle.exam_text.specs.Answer.{roundLength, recordLines, Rounds}
+use Rattle.exam_text.specs.Printing.{roundLength, recordLines, Rounds}
 use Rattle.exam_text.proofs.PrintedParts.{all-written}
 use Rattle.exam_text.proofs.PrintedLines.{roundLines, rest-of, record-none, record-end, record-step, rounds-step}
 use Rattle.exam_text.proofs.printing.write_record.Statement.{statement}

@@ -4,7 +4,7 @@ use mathlib.Core.Path.{_≡_}
 use mathlib.Core.List.{List}
 use borrow.Author.Needs.{needs}
 use lib.ListN.{drop}
-use Rattle.exam_text.specs.Answer.{entryLines}
+use Rattle.exam_text.specs.Printing.{entryLines}
 use Rattle.exam_text.proofs.PrintedLines.{roundLines, round-lines, round-room}
 use Rattle.exam_text.proofs.printing.write_round.Statement.{statement}
 use Rattle.exam_text.proofs.printing.write_round.Tie as tie

@@ -10,7 +10,8 @@ use Rattle.bits.specs.Places.{overlay}
 use Rattle.search.specs.Search.{Lent, lent}
 use Rattle.demands.specs.Honest.{Accepted, recordRead, listRead, Honest}
 use Rattle.exam_text.specs.Reader.{sheetOf}
-use Rattle.exam_text.specs.Answer.{answerText, printed, Rounds}
+use Rattle.exam_text.specs.Answer.{answerText}
+use Rattle.exam_text.specs.Printing.{printed, Rounds}
 use Rattle.exam_text.proofs.LineKeys.{stringsOf}
 use Rattle.exam_text.proofs.SheetSearch.{Ready, shares-room, sheet-laid, sheet-fits, sheet-accepted, sheet-printed, sheet-rounds}
 use borrow.Author.Needs.{needs}

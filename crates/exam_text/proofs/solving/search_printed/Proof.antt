@@ -8,7 +8,7 @@ use Rattle.bits.specs.Places.{overlay}
 use Rattle.search.specs.Search.{Lent, lent}
 use Rattle.demands.specs.Honest.{recordRead, listRead}
 use Rattle.demands.proofs.Reading.{record-whole, list-whole}
-use Rattle.exam_text.specs.Answer.{printed}
+use Rattle.exam_text.specs.Printing.{printed}
 use borrow.Author.Needs.{needs}
 use Rattle.exam_text.proofs.solving.search_printed.Statement.{statement}
 use Rattle.exam_text.proofs.solving.search_printed.Tie as tie
