@@ -2,7 +2,7 @@
 use Prim.Native.Nat.{ℕ, zero, suc, _+_, _*_, _/_, _%_, _^_, _≤_, _<_}
 use native.Mathlib.Omega.{arith}
 use native.Mathlib.Nat.{suc-mul, mul-le-mul, pow-succ', div-lt-iff-lt-mul}
-use mathlib.Core.Path.{_≡_, refl, ap}
+use mathlib.Core.Path.{_≡_}
 use mathlib.Core.Bool.{Bool, true, false, cond}
 use mathlib.Core.List.{List, [], _∷_, _++_, map}
 use mathlib.Core.Option.{Option, none, some}
@@ -10,8 +10,6 @@ use borrow.Author.Tests.{lt-ltb}
 use lib.ListN.{length, length-append}
 use lib.Dec.{ltb}
 use Rattle.bits.specs.Lists.{All}
-use Rattle.bits.specs.Strings.{Bits}
-use Rattle.bits.specs.Numbers.{Bytes}
 use Rattle.tree.specs.Query.{OfLength}
 use Rattle.exam_text.specs.Characters.{glyph, decimalIn}
 use Rattle.exam_text.specs.Sheet.{Line, Sheet, strings, expanderNumber, lineText, linesText, expanderText, text, FiveDigits}

@@ -1,10 +1,10 @@
 -- The reader of exam texts: whether a text is that of a sheet, and of which. Assumes nothing.
 use Prim.Native.Nat.{ℕ, zero, suc, _+_, _*_, _-_}
-use mathlib.Core.Bool.{Bool, true, false, cond, not, _&&_, _||_}
+use mathlib.Core.Bool.{Bool, true, cond, not, _&&_, _||_}
 use mathlib.Core.List.{List, [], _∷_, map}
 use mathlib.Core.Option.{Option, none, some}
 use lib.ListN.{length, getD, take, drop}
-use lib.Dec.{leb, ltb, eqb}
+use lib.Dec.{leb, eqb}
 use Rattle.bits.specs.Strings.{Bits}
 use Rattle.exam_text.specs.Characters.{space, newline}
 use Rattle.exam_text.specs.Sheet.{Line, Sheet}

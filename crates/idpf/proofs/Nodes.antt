@@ -8,7 +8,6 @@ use lib.ListN.{getD, set}
 use lib.Dec.{eqb}
 use Rattle.expander.specs.Expander.{blockOf, xorBytes}
 use Rattle.expander.specs.declared.Expander.{Expander}
-use Rattle.point.specs.Scheme.{Scheme}
 use Rattle.point.specs.Node.{Node, controlBit, cleared, child}
 use Rattle.point.specs.Correction.{corrected}
 use Rattle.point.specs.Instance.{fieldScheme, scheme}

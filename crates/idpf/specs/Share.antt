@@ -13,7 +13,6 @@ use Rattle.calls.specs.Clauses.{Clause, clause}
 use Rattle.expander.specs.Expander.{choiceOf, isExpander, under}
 use Rattle.expander.specs.declared.Expander.{Expander}
 use Rattle.group.specs.Modular.{p}
-use Rattle.point.specs.Correction.{Correction}
 use Rattle.point.specs.Share.{bitOf}
 use Rattle.point.specs.PublicShare.{controlBytes, publicShareLength, binaryDigit, readCorrection, every, payloadsBelow, spareBitsZero}
 use Rattle.tree.specs.Query.{IsQuery, isQuery, prefixCount, prefixesOf}

@@ -1,8 +1,5 @@
 use Rattle.exam.proofs.read_text.Statement.{statement}
 use Rattle.exam.proofs.read_text.Tie as tie
-use Rattle.exam.proofs.read_text.Reads as reads
-use Rattle.exam.proofs.read_text.Lts as lts
-use Rattle.exam.proofs.read_more.Reads as read-more-reads
 use mathlib.Core.Path.{_≡_, refl}
 use Prim.Native.Nat.{_-_, _≤_}
 use native.Mathlib.Omega.{arith}

@@ -1,7 +1,5 @@
 -- `expander::two_blocks` meets its contract, expander by expander. Assumes nothing.
-use mathlib.Core.Path.{ap, ap₂, _∙_}
-use mathlib.Core.List.{List}
-use Prim.Native.Nat.{ℕ}
+use mathlib.Core.Path.{ap, _∙_}
 use Rattle.aes.specs.Fips197.{cipher}
 use Rattle.expander.specs.Expander.{aesBlock}
 use borrow.Author.Needs.{needs}

@@ -1,5 +1,5 @@
 -- `aes::word::Word::diagonal` meets its contract. It packs one byte of each word. Assumes nothing.
-use mathlib.Core.Path.{_≡_, ap, _∙_}
+use mathlib.Core.Path.{ap, _∙_}
 use mathlib.Core.List.{List}
 use Prim.Native.Nat.{ℕ}
 use lib.ListN.{getD}

@@ -1,5 +1,5 @@
 -- `aes::word::Word::sub_word` meets its contract. It goes byte by byte. Assumes nothing.
-use mathlib.Core.Path.{_≡_, ap, _∙_}
+use mathlib.Core.Path.{ap, _∙_}
 use mathlib.Core.List.{List}
 use Prim.Native.Nat.{ℕ}
 use lib.ListN.{getD}
