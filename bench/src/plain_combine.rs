@@ -13,7 +13,7 @@ pub enum Answer {
 }
 
 /// The prefix length and the count of a query as laid out for strings of n bits.
-fn read_query(n: usize, query: &[u8]) -> Option<(usize, usize)> {
+pub fn read_query(n: usize, query: &[u8]) -> Option<(usize, usize)> {
     if query.len() < 6 {
         return None;
     }

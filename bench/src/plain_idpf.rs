@@ -1,10 +1,10 @@
-//! The key maker and a server's share in plain Rust, over any block function.
+//! The key maker and a server's walk in plain Rust, over any AES.
+
+use crate::aes::{Aes, Seed};
 
 pub const P: u64 = 0xffff_ffff_0000_0001;
 
-type Seed = [u8; 16];
-
-fn add(x: u64, y: u64) -> u64 {
+pub fn add(x: u64, y: u64) -> u64 {
     ((x as u128 + y as u128) % P as u128) as u64
 }
 
@@ -16,7 +16,7 @@ fn xor(a: Seed, b: Seed) -> Seed {
     (u128::from_ne_bytes(a) ^ u128::from_ne_bytes(b)).to_ne_bytes()
 }
 
-fn bit(bytes: &[u8], i: usize) -> bool {
+pub fn bit(bytes: &[u8], i: usize) -> bool {
     bytes[i / 8] >> (7 - i % 8) & 1 == 1
 }
 
@@ -36,19 +36,13 @@ pub fn public_share_length(n: usize) -> usize {
 }
 
 /// The public share of a string of n bits.
-pub fn make_key(
-    block: impl Fn(&Seed, u64) -> Seed,
-    n: usize,
-    string: &[u8],
-    seeds: [Seed; 2],
-    out: &mut [u8],
-) {
+pub fn make_key(aes: impl Aes, n: usize, string: &[u8], seeds: [Seed; 2], out: &mut [u8]) {
     let head = n.div_ceil(4);
     out[..head].fill(0);
     let mut nodes = [(seeds[0], false), (seeds[1], true)];
     for k in 0..n {
         let a = bit(string, k);
-        let children = nodes.map(|(s, _)| [split(block(&s, 0)), split(block(&s, 1))]);
+        let children = nodes.map(|(s, _)| [split(aes.block(&s, 0)), split(aes.block(&s, 1))]);
         let lose = !a as usize;
         let seed = xor(children[0][lose].0, children[1][lose].0);
         let left = children[0][0].1 ^ children[1][0].1 ^ a ^ true;
@@ -61,8 +55,8 @@ pub fn make_key(
                 s = xor(s, seed);
                 t ^= keep;
             }
-            drawn[b] = draw(block(&s, 3));
-            nodes[b] = (block(&s, 2), t);
+            drawn[b] = draw(aes.block(&s, 3));
+            nodes[b] = (aes.block(&s, 2), t);
         }
         let mut payload = add(add(1, negate(drawn[0])), drawn[1]);
         if nodes[1].1 {
@@ -86,35 +80,60 @@ pub fn is_public_share(n: usize, share: &[u8]) -> bool {
         && (n % 4 == 0 || share[n / 4] >> (2 * (n % 4)) == 0)
 }
 
-/// Server b's share of one report at a packed prefix of `length` bits.
-pub fn share(
-    block: impl Fn(&Seed, u64) -> Seed,
+/// Server b's node at the first `length` bits of a packed prefix: its seed and its control bit.
+pub fn node(
+    aes: impl Aes,
     n: usize,
     b: bool,
     seed: Seed,
     share: &[u8],
     prefix: &[u8],
     length: usize,
-) -> u64 {
-    let head = n.div_ceil(4);
-    let (mut s, mut t) = (seed, b);
+) -> (Seed, bool) {
+    let mut node = (seed, b);
     for k in 0..length {
-        let x = bit(prefix, k);
-        let (mut child, mut control) = split(block(&s, x as u64));
-        if t {
-            let at = head + 24 * k;
-            child = xor(child, share[at..at + 16].try_into().unwrap());
-            control ^= share[k / 4] >> (2 * (k % 4) + x as usize) & 1 == 1;
-        }
-        if k + 1 == length {
-            let mut value = draw(block(&child, 3));
-            if control {
-                value = add(value, payload_at(n, share, k));
-            }
-            return if b { negate(value) } else { value };
-        }
-        s = block(&child, 2);
-        t = control;
+        let (child, control) = corrected_child(aes, n, share, node, k, bit(prefix, k));
+        node = (aes.block(&child, 2), control);
     }
-    0
+    node
+}
+
+/// The child of a node of k bits on side x, corrected.
+fn corrected_child(
+    aes: impl Aes,
+    n: usize,
+    share: &[u8],
+    (seed, t): (Seed, bool),
+    k: usize,
+    x: bool,
+) -> (Seed, bool) {
+    let (mut child, mut control) = split(aes.block(&seed, x as u64));
+    if t {
+        let at = n.div_ceil(4) + 24 * k;
+        child = xor(child, share[at..at + 16].try_into().unwrap());
+        control ^= share[k / 4] >> (2 * (k % 4) + x as usize) & 1 == 1;
+    }
+    (child, control)
+}
+
+/// Server b's share of one report, one bit further down than a node of k bits.
+pub fn share_below(
+    aes: impl Aes,
+    n: usize,
+    b: bool,
+    share: &[u8],
+    node: (Seed, bool),
+    k: usize,
+    x: bool,
+) -> u64 {
+    let (child, control) = corrected_child(aes, n, share, node, k, x);
+    let mut value = draw(aes.block(&child, 3));
+    if control {
+        value = add(value, payload_at(n, share, k));
+    }
+    if b {
+        negate(value)
+    } else {
+        value
+    }
 }

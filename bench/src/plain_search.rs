@@ -1,42 +1,25 @@
-//! The whole search in plain Rust: every prefix of a query is walked from the root, for every report and both servers.
+//! The whole search in plain Rust, over any AES and by either way to walk.
 
+use crate::aes::Aes;
 use crate::plain_combine::{self, Answer};
-use crate::plain_idpf::{self, P};
+use crate::plain_idpf::add;
+use crate::plain_share::{well_formed, write_sums, Walk};
 use tally::Reports;
 
-type Seed = [u8; 16];
-
-/// The reports of n bits that a server is lent, one by one.
-fn each<'a>(n: usize, lent: Reports<'a>) -> impl Iterator<Item = (Seed, &'a [u8])> {
-    let shares = lent
-        .public_shares
-        .chunks_exact(plain_idpf::public_share_length(n));
-    lent.seeds.iter().copied().zip(shares)
-}
-
-fn well_formed(n: usize, lent: Reports) -> bool {
-    lent.public_shares.len() == lent.seeds.len() * plain_idpf::public_share_length(n)
-        && each(n, lent).all(|(_, share)| plain_idpf::is_public_share(n, share))
-}
-
-/// The sum over one server's reports at a prefix of `length` bits.
-fn sum(
-    block: fn(&Seed, u64) -> Seed,
-    n: usize,
-    server: bool,
-    lent: Reports,
-    prefix: &[u8],
-    length: usize,
-) -> u64 {
-    each(n, lent).fold(0, |sum, (seed, public_share)| {
-        let share = plain_idpf::share(block, n, server, seed, public_share, prefix, length);
-        ((sum as u128 + share as u128) % P as u128) as u64
-    })
+/// Writes the totals of two shares, 8 bytes each.
+fn write_totals(shares: &[Vec<u8>; 2], out: &mut [u8]) {
+    let [zero, one] = shares;
+    let numbers = zero.chunks_exact(8).zip(one.chunks_exact(8));
+    for (place, (x, y)) in out.chunks_exact_mut(8).zip(numbers) {
+        let [x, y] = [x, y].map(|bytes| u64::from_le_bytes(bytes.try_into().unwrap()));
+        place.copy_from_slice(&add(x, y).to_le_bytes());
+    }
 }
 
 /// Record and list of a search that is accepted, written into their areas; their lengths.
 pub fn search(
-    block: fn(&Seed, u64) -> Seed,
+    aes: impl Aes,
+    walk: Walk,
     n: usize,
     t: u64,
     servers: [Reports; 2],
@@ -58,19 +41,14 @@ pub fn search(
             return None;
         }
         record[used..totals_at].copy_from_slice(&query);
-        for (i, prefix) in query[6..].chunks_exact(length.div_ceil(8)).enumerate() {
-            let sums = [
-                sum(block, n, false, zero, prefix, length),
-                sum(block, n, true, one, prefix, length),
-            ];
-            let total = ((sums[0] as u128 + sums[1] as u128) % P as u128) as u64;
-            record[totals_at + 8 * i..][..8].copy_from_slice(&total.to_le_bytes());
+        let mut shares = [vec![0; 8 * count], vec![0; 8 * count]];
+        for ((server, lent), out) in [(false, zero), (true, one)].into_iter().zip(&mut shares) {
+            write_sums(aes, walk, n, server, lent, (length, &query[6..]), out);
         }
+        write_totals(&shares, &mut record[totals_at..end]);
         used = end;
-        let totals = &record[totals_at..end];
-        let nothing = vec![0; totals.len()];
         let mut out = vec![0; 6 + 2 * count * (length + 1).div_ceil(8)];
-        match plain_combine::combine(n, t, &query, totals, &nothing, &mut out) {
+        match plain_combine::combine(n, t, &query, &shares[0], &shares[1], &mut out) {
             Answer::Next(size) => query = out[..size].to_vec(),
             Answer::Ended => return Some((used, 0)),
             Answer::List(size) if size <= list.len() => {

@@ -141,7 +141,11 @@ impl State {
     }
 
     fn next_round_key(mut self, table: &[u8; 256], i: usize) -> State {
-        let temp = self.w3.rot_word().sub_word(table).plus(Word::round_constant(i));
+        let temp = self
+            .w3
+            .rot_word()
+            .sub_word(table)
+            .plus(Word::round_constant(i));
         self.w0 = self.w0.plus(temp);
         self.w1 = self.w1.plus(self.w0);
         self.w2 = self.w2.plus(self.w1);
@@ -156,7 +160,11 @@ pub fn encrypt(key: [u8; 16], block: [u8; 16]) -> [u8; 16] {
     let mut s = State::load(block).add_round_key(k);
     for i in 0..9 {
         k = k.next_round_key(table, i);
-        s = s.sub_bytes(table).shift_rows().mix_columns().add_round_key(k);
+        s = s
+            .sub_bytes(table)
+            .shift_rows()
+            .mix_columns()
+            .add_round_key(k);
     }
     k = k.next_round_key(table, 9);
     s.sub_bytes(table).shift_rows().add_round_key(k).store()

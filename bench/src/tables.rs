@@ -38,12 +38,7 @@ const fn sbox() -> [u8; 256] {
     let mut x = 0;
     while x < 256 {
         let v = inverse(x as u8);
-        t[x] = v
-            ^ v.rotate_left(1)
-            ^ v.rotate_left(2)
-            ^ v.rotate_left(3)
-            ^ v.rotate_left(4)
-            ^ 0x63;
+        t[x] = v ^ v.rotate_left(1) ^ v.rotate_left(2) ^ v.rotate_left(3) ^ v.rotate_left(4) ^ 0x63;
         x += 1;
     }
     t

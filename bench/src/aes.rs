@@ -1,0 +1,66 @@
+//! Ways to a block of expander 1 in Rust, and work that can be done over each of them.
+
+use crate::hardware::Hardware;
+use crate::timing::{Column, Subject};
+use crate::{plain_aes, same_aes};
+
+pub type Seed = [u8; 16];
+
+/// One block of AES-128 with a seed as its key.
+pub trait Aes: Copy {
+    fn block(self, seed: &Seed, j: u64) -> Seed;
+}
+
+/// The block number as AES takes it.
+pub fn counter(j: u64) -> Seed {
+    (j as u128).to_be_bytes()
+}
+
+/// AES with the structs and steps of the proved code.
+#[derive(Clone, Copy)]
+pub struct SameCode;
+
+impl Aes for SameCode {
+    #[inline(never)]
+    fn block(self, seed: &Seed, j: u64) -> Seed {
+        same_aes::encrypt(*seed, counter(j))
+    }
+}
+
+/// AES as it is often written, with a table of bytes.
+#[derive(Clone, Copy)]
+pub struct ByteTable;
+
+impl Aes for ByteTable {
+    #[inline(never)]
+    fn block(self, seed: &Seed, j: u64) -> Seed {
+        plain_aes::encrypt(seed, &counter(j))
+    }
+}
+
+/// Something to do a number of times over any AES.
+pub trait Work: Copy {
+    type Output;
+    fn run<A: Aes>(self, aes: A, calls: usize) -> Self::Output;
+}
+
+/// The subjects that do some work in plain Rust: over the same AES, over the byte table, and over AES-NI where the processor has it.
+pub fn over_each<'a, W: Work + 'a>(way: &'static str, work: W) -> Vec<Subject<'a, W::Output>> {
+    let mut subjects = vec![
+        Subject::new(way, Column::SameCode, move |c| work.run(SameCode, c)),
+        Subject::new(way, Column::ByteTable, move |c| work.run(ByteTable, c)),
+    ];
+    if let Some(hardware) = Hardware::found() {
+        let run = move |c| work.run(hardware, c);
+        subjects.push(Subject::new(way, Column::Hardware, run));
+    }
+    subjects
+}
+
+/// The work done once over the quickest AES there is, to compare an output with.
+pub fn quickest<W: Work>(work: W, calls: usize) -> W::Output {
+    match Hardware::found() {
+        Some(hardware) => work.run(hardware, calls),
+        None => work.run(SameCode, calls),
+    }
+}

@@ -1,0 +1,134 @@
+//! The measure of a whole search.
+
+use crate::aes::{over_each, Aes, SameCode, Seed, Work};
+use crate::plain_share::Walk;
+use crate::timing::{Measure, Subject, Timed};
+use crate::Plan;
+use crate::{plain_idpf, plain_search};
+use tally::{Expander, Reports};
+
+/// Record and list of a search.
+pub type Found = (Vec<u8>, Vec<u8>);
+
+/// An honest collection: the reports lent to each server for strings of n bits, ten of which are held by one installation in fifty each.
+pub struct Collection {
+    n: usize,
+    t: u64,
+    seeds: [Vec<Seed>; 2],
+    public_shares: Vec<u8>,
+}
+
+/// Numbers that look random and are the same in each run.
+fn numbers() -> impl FnMut() -> u64 {
+    let mut state = 0x9e37_79b9_7f4a_7c15u64;
+    move || {
+        state ^= state << 13;
+        state ^= state >> 7;
+        state ^= state << 17;
+        state
+    }
+}
+
+/// The packed string of n bits of installation i.
+fn held(n: usize, i: usize, next: &mut impl FnMut() -> u64) -> Vec<u8> {
+    let mut packed: Vec<u8> = (0..n.div_ceil(8)).map(|_| next() as u8).collect();
+    if i % 50 < 10 {
+        packed.fill(23 * (i % 50) as u8);
+    }
+    for byte in &mut packed[n / 8..] {
+        *byte &= !(255 >> (n % 8));
+    }
+    packed
+}
+
+impl Collection {
+    pub fn new(n: usize, count: usize, t: u64) -> Collection {
+        let mut next = numbers();
+        let mut made = Collection {
+            n,
+            t,
+            seeds: [Vec::new(), Vec::new()],
+            public_shares: Vec::new(),
+        };
+        let mut key = vec![0u8; plain_idpf::public_share_length(n)];
+        for i in 0..count {
+            let seeds = [0u8, 1].map(|server| {
+                let mut seed = [server; 16];
+                seed[..8].copy_from_slice(&(i as u64).to_le_bytes());
+                seed
+            });
+            plain_idpf::make_key(SameCode, n, &held(n, i, &mut next), seeds, &mut key);
+            for (all, seed) in made.seeds.iter_mut().zip(seeds) {
+                all.push(seed);
+            }
+            made.public_shares.extend_from_slice(&key);
+        }
+        made
+    }
+
+    /// What each server is lent.
+    fn lent(&self) -> [Reports<'_>; 2] {
+        [0, 1].map(|server| Reports {
+            seeds: &self.seeds[server],
+            public_shares: &self.public_shares,
+        })
+    }
+
+    /// Areas made anew, and of them what a search wrote.
+    fn found(&self, search: impl Fn(&mut [u8], &mut [u8]) -> Option<(usize, usize)>) -> Found {
+        let (mut record, mut list) = (vec![0u8; 1 << 20], vec![0u8; 1 << 16]);
+        let (record_length, list_length) = search(&mut record, &mut list).expect("accepted");
+        record.truncate(record_length);
+        list.truncate(list_length);
+        (record, list)
+    }
+
+    /// The proved search.
+    pub fn proved(&self) -> Found {
+        let (n, [zero, one]) = (self.n as u64, self.lent());
+        self.found(|record, list| {
+            let made = tally::search_into(n, self.t, Expander::Aes, zero, one, record, list);
+            made.ok().map(|found| (found.record, found.list))
+        })
+    }
+}
+
+/// The whole search in plain Rust, by one way to walk.
+#[derive(Clone, Copy)]
+pub struct Searches<'a> {
+    pub collection: &'a Collection,
+    pub walk: Walk,
+}
+
+impl Work for Searches<'_> {
+    type Output = Found;
+
+    fn run<A: Aes>(self, aes: A, _: usize) -> Found {
+        let Collection { n, t, .. } = self.collection;
+        let lent = self.collection.lent();
+        self.collection
+            .found(|record, list| plain_search::search(aes, self.walk, *n, *t, lent, record, list))
+    }
+}
+
+/// A whole search of 1,000 reports, or a small one for a check.
+pub fn measure_search(plan: &Plan) -> Timed {
+    let (n, count, t) = match plan.check {
+        true => (16, 50, 2),
+        false => (32, 1_000, 10),
+    };
+    let measure = Measure {
+        title: format!("a whole search, C = {count}, n = {n}, t = {t}"),
+        cleared: "yes, made anew as zero bytes",
+        calls: 1,
+        parts: 1,
+        rounds: plan.few(),
+    };
+    let collection = Collection::new(n, count, t);
+    let mut subjects = vec![Subject::proved(|_| collection.proved())];
+    for walk in [Walk::FromRoot, Walk::Shared] {
+        let collection = &collection;
+        subjects.extend(over_each(walk.name(), Searches { collection, walk }));
+    }
+    measure.compare(subjects)
+}
