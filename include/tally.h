@@ -233,7 +233,7 @@ tally_found tally_search(uint64_t n, uint64_t t, uint64_t expander,
 
 // Answers an exam text: makes the keys of its strings, does the whole search over them, and writes the record and the list as lines.
 // Reads: the text, which need not end in a zero byte.
-// Writes: the answer into out, without a zero byte at its end. TALLY_EXAM_SPACE bytes are always enough; there are at least 8.
+// Writes: the answer into out, without a zero byte at its end. TALLY_EXAM_SPACE bytes are always enough; every answer has at least 8.
 // Refuses with 10, judged first; 1, n is 0; 2; 3; 11, out is too small for the whole answer.
 tally_reply tally_exam(const uint8_t *text, size_t text_length,
                        uint8_t *out, size_t out_length);

@@ -10,13 +10,14 @@ use crate::{accepted, calls, written, Refusal};
 /// ```
 pub const EXAM_SPACE: usize = 43_232;
 
-/// The answer to an exam text: a line for each queried prefix, its bits and its total, in record order; then a line for each heavy string.
+/// The answer to an exam text: a line for each queried prefix, its bits and its total, in record order; then for each heavy string, ascending, a line
+/// `heavy` and the string. Each line ends in a newline.
 ///
 /// The text is a line `n t C e`, then C lines `string seed0 seed1`, and nothing after them: single spaces, and one newline at the end of each
-/// line. n, t, C and e are decimal, at most 5 digits without leading zeros; n and C are at most 32; e is the expander's number, and 2 where it
-/// is missing. A string is n digits 0 or 1, a seed 32 hexadecimal digits in lower case. The text has at most 4,096 bytes.
+/// line. n, t, C and e are decimal, at most 5 digits without leading zeros (zero is `0`); n and C are at most 32; e is the expander's number,
+/// and where it is missing, with the space before it, it is 2. A string is n digits 0 or 1, a seed 32 hexadecimal digits in lower case. The text has at most 4,096 bytes.
 ///
-/// Refuses with 10, judged first; 1, 2 or 3.
+/// Refuses with 10, judged first; 1 where n is 0; 2 or 3.
 ///
 /// ```
 /// use tally::{exam, Refusal};
