@@ -1,5 +1,6 @@
 pub mod Nodes
 pub mod Descent
+pub mod Readers
 pub mod Lent
 pub mod LentPrefix
 pub mod Siblings

@@ -1,23 +1,14 @@
 // The tests of causes 6 and 7 on lent public shares.
-use crate::layout::level_start;
 use crate::layout::public_share_length;
+use crate::reader::read_level;
 use crate::reports::report_count;
 ghost use mathlib.Core.Path.{_≡_};
 ghost use mathlib.Core.Bool.{not};
 ghost use Prim.Native.Nat.{_+_, _≤_};
 ghost use lib.ListN.{length, take, drop};
-ghost use lib.Dec.{ltb};
 ghost use Rattle.group.specs.Modular.{p};
-ghost use Rattle.point.specs.PublicShare.{publicShareLength, readCorrection, payloadsBelow, spareBitsZero};
+ghost use Rattle.point.specs.PublicShare.{publicShareLength, payloadsBelow, spareBitsZero};
 ghost use Rattle.idpf.specs.Share.{payloadTooLarge, spareBitsSet};
-
-// Whether the payload correction of level k, of n, is below p.
-fn payload_below(n: u16, share: &[u8], k: u16) -> bool
-    ensures { λ r. ⌜ r ≡ ltb (readCorrection n (now (share .entry)) k .payload) p ⌝ }
-{
-    let start = level_start(n, k);
-    bits::numbers::read_le8(share, start + 16) < group::P
-}
 
 // Whether the payload corrections of all n levels are below p.
 pub(crate) fn payloads_below(n: u16, share: &[u8]) -> bool
@@ -25,10 +16,12 @@ pub(crate) fn payloads_below(n: u16, share: &[u8]) -> bool
 {
     let mut k = 0;
     while k < n {
-        if !payload_below(n, share, k) {
+        let level = read_level(n, share, k);
+        let word = level.word;
+        if group::P <= word.payload {
             return false;
         }
-        k += 1;
+        k = level.next;
     }
     true
 }

@@ -5,6 +5,7 @@ mod layout;
 mod level;
 mod node;
 mod pairs;
+mod reader;
 mod reports;
 mod shares;
 mod walk;

@@ -1,9 +1,9 @@
 // A server's sums at two prefixes: where these have one parent, each report's walk to it is made once.
 use crate::layout::public_share_length;
+use crate::reader::read_level;
 use crate::reports::report_count;
 use crate::reports::server_sum;
 use crate::walk::node_at;
-use crate::walk::read_correction;
 use crate::walk::share_below;
 use expander::Expander;
 ghost use mathlib.Core.Path.{_≡_};
@@ -57,12 +57,13 @@ fn shares_below(
 {
     let up = k - 1;
     let m = node_at(e, n, bytes, seed, b, first, up);
-    let c = read_correction(n, bytes, up);
+    let level = read_level(n, bytes, up);
+    let word = level.word;
     let x = bits::packing::bit_at(first, up as usize);
     let y = bits::packing::bit_at(second, up as usize);
     Sums {
-        first: share_below(e, b, c, x, m),
-        second: share_below(e, b, c, y, m),
+        first: share_below(e, b, word, x, m),
+        second: share_below(e, b, word, y, m),
     }
 }
 

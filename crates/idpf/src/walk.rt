@@ -1,10 +1,10 @@
 // A server's walk: from the root seed down the levels of one public share, which is read in place.
-use crate::layout::level_start;
 use crate::node::Correction;
 use crate::node::Node;
 use crate::node::child;
 use crate::node::corrected;
 use crate::node::draw;
+use crate::reader::read_level;
 use expander::Expander;
 ghost use mathlib.Core.Path.{_≡_};
 ghost use mathlib.Core.Bool.{cond};
@@ -16,22 +16,6 @@ ghost use Rattle.point.specs.Share.{descend, correctedPayload, shareBelow, node
 ghost use Rattle.point.specs.PublicShare.{readCorrection};
 ghost use Rattle.idpf.specs.Layout.{nodeOf, correctionOf};
 ghost use Rattle.idpf.specs.Reports.{packedBit};
-
-// The correction word of level k, of n, in a public share.
-pub(crate) fn read_correction(n: u16, bytes: &[u8], k: u16) -> Correction
-    ensures { λ r. ⌜ correctionOf r ≡ readCorrection n (now (bytes .entry)) k ⌝ }
-{
-    let level = k as usize;
-    let start = level_start(n, k);
-    let control = bits::numbers::byte_at(bytes, level / 4);
-    let place = 2 * (level % 4);
-    Correction {
-        seed: bits::numbers::read16(bytes, start),
-        left: (control >> place) % 2 == 1,
-        right: (control >> (place + 1)) % 2 == 1,
-        payload: bits::numbers::read_le8(bytes, start + 16),
-    }
-}
 
 // The bit correction of a side: left for false, right for true.
 fn bit_correction(c: Correction, x: bool) -> bool
@@ -97,12 +81,9 @@ pub(crate) fn node_at(
     }
     let up = k - 1;
     let m = node_at(e, n, bytes, seed, b, prefix, up);
-    descend(
-        e,
-        read_correction(n, bytes, up),
-        bits::packing::bit_at(prefix, up as usize),
-        m,
-    )
+    let level = read_level(n, bytes, up);
+    let word = level.word;
+    descend(e, word, bits::packing::bit_at(prefix, up as usize), m)
 }
 
 // Server b's share at the first k bits of a packed prefix, from its root seed; 0 at the empty prefix.
@@ -122,11 +103,7 @@ pub(crate) fn share_at(
     }
     let up = k - 1;
     let m = node_at(e, n, bytes, seed, b, prefix, up);
-    share_below(
-        e,
-        b,
-        read_correction(n, bytes, up),
-        bits::packing::bit_at(prefix, up as usize),
-        m,
-    )
+    let level = read_level(n, bytes, up);
+    let word = level.word;
+    share_below(e, b, word, bits::packing::bit_at(prefix, up as usize), m)
 }

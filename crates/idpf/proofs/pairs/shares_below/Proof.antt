@@ -13,8 +13,8 @@ sub-up c = search needs
 node-at-requires : tie.Need-node-at-requires
 node-at-requires c κs = search needs
 
-read-correction-requires : tie.Need-read-correction-requires
-read-correction-requires c κs = search needs
+read-level-requires : tie.Need-read-level-requires
+read-level-requires c κs = search needs
 
 cast-bit-at : tie.Need-cast-bit-at
 cast-bit-at c = search needs
@@ -39,17 +39,17 @@ returns c =
     let f = c .before in
     let y = f .before in
     let x = y .before in
-    let r = x .before in
+    let r = x .before .before in
     let m = r .before in
     let s = m .before .before .before .before in
     let a = s .args in
     let words = readCorrection (a .n) (a .bytes .now) in (
       (
-        share-level (a .e) words (a .seed) (a .b) (packedBit (a .first .now)) (a .k) (s .pre .some-bits) (r .read-correction .ensures) (x .bit-at .ensures) (m .node-at .ensures) (f .share-below .ensures .0),
+        share-level (a .e) words (a .seed) (a .b) (packedBit (a .first .now)) (a .k) (s .pre .some-bits) (r .read-level .ensures .0) (x .bit-at .ensures) (m .node-at .ensures) (f .share-below .ensures .0),
         f .share-below .ensures .1,
       ),
       (
-        share-level (a .e) words (a .seed) (a .b) (packedBit (a .second .now)) (a .k) (s .pre .some-bits) (r .read-correction .ensures) (y .bit-at2 .ensures)
+        share-level (a .e) words (a .seed) (a .b) (packedBit (a .second .now)) (a .k) (s .pre .some-bits) (r .read-level .ensures .0) (y .bit-at2 .ensures)
             (parent-node (a .e) words (a .seed) (a .b) (a .first .now) (a .second .now) (a .k) (s .pre) (m .node-at .ensures)) (c .share-below2 .ensures .0),
         c .share-below2 .ensures .1,
       ),
@@ -61,7 +61,7 @@ shares-below-spec =
     (tie.spec
     sub-up
     node-at-requires
-    read-correction-requires
+    read-level-requires
     cast-bit-at
     bit-at-requires
     cast-bit-at-2

@@ -11,7 +11,7 @@ use Rattle.idpf.proofs.walk.node_at.Kinds as node-at-kinds
 use Rattle.idpf.proofs.walk.+node_at.Lts-node_at as node-at-lts
 use Rattle.bits.proofs.packing.bit_at.Reads as bit-at-reads
 use Rattle.idpf.proofs.walk.descend.Reads as descend-reads
-use Rattle.idpf.proofs.walk.read_correction.Reads as read-correction-reads
+use Rattle.idpf.proofs.reader.read_level.Reads as read-level-reads
 use Rattle.idpf.proofs.walk.+node_at.{statement}
 use Rattle.idpf.proofs.walk.+node_at.Tie.{close}
 
@@ -29,8 +29,8 @@ abbrev calls : ℕ → node-at-lts.Claims
 calls t = (
   node-at-below t,
   node-at.Post,
-  read-correction-reads.Asked,
-  read-correction-reads.Learnt,
+  read-level-reads.Asked,
+  read-level-reads.Learnt,
   bit-at-reads.Asked,
   bit-at-reads.Learnt,
   descend-reads.Asked,
@@ -48,8 +48,8 @@ node-at-sub-up t c = omega arith
 node-at-node-at-requires : (t : ℕ) → node-at-lts.Need-node-at-requires (calls t) (node-at-at t) node-at.Post
 node-at-node-at-requires t c κs = omega (arith, c .before .before .before .pre .0)
 
-node-at-read-correction-requires : (t : ℕ) → node-at-lts.Need-read-correction-requires (calls t) (node-at-at t) node-at.Post
-node-at-read-correction-requires t c κs = tt
+node-at-read-level-requires : (t : ℕ) → node-at-lts.Need-read-level-requires (calls t) (node-at-at t) node-at.Post
+node-at-read-level-requires t c κs = omega arith
 
 node-at-cast-bit-at : (t : ℕ) → node-at-lts.Need-cast-bit-at (calls t) (node-at-at t) node-at.Post
 node-at-cast-bit-at t c = omega arith
@@ -63,17 +63,17 @@ node-at-descend-requires t c κs = tt
 node-at-returns-2 : (t : ℕ) → node-at-lts.Need-returns-2 (calls t) (node-at-at t) node-at.Post
 node-at-returns-2 t c =
     let x = c .before in
-    let r = x .before in
+    let r = x .before .before in
     let m = r .before in
     let a = m .before .before .before .before .args in
-    node-level (a .e) (readCorrection (a .n) (a .bytes .now)) (a .seed) (a .b) (packedBit (a .prefix .now)) (a .k) (omega arith) (r .read-correction .ensures) (x .bit-at .ensures) (m .node-at .ensures) (c .descend .ensures)
+    node-level (a .e) (readCorrection (a .n) (a .bytes .now)) (a .seed) (a .b) (packedBit (a .prefix .now)) (a .k) (omega arith) (r .read-level .ensures .0) (x .bit-at .ensures) (m .node-at .ensures) (c .descend .ensures)
 
 pub +node-at-spec : {M : Type 1} → statement M
 +node-at-spec = close μ-node-at λ t. node-at-lts.spec (calls t) (node-at-at t) node-at.Post
     (node-at-returns t)
     (node-at-sub-up t)
     (node-at-node-at-requires t)
-    (node-at-read-correction-requires t)
+    (node-at-read-level-requires t)
     (node-at-cast-bit-at t)
     (node-at-bit-at-requires t)
     (node-at-descend-requires t)

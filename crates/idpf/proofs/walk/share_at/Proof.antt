@@ -18,8 +18,8 @@ sub-up c = search needs
 node-at-requires : tie.Need-node-at-requires
 node-at-requires c κs = search needs
 
-read-correction-requires : tie.Need-read-correction-requires
-read-correction-requires c κs = search needs
+read-level-requires : tie.Need-read-level-requires
+read-level-requires c κs = search needs
 
 cast-bit-at : tie.Need-cast-bit-at
 cast-bit-at c = search needs
@@ -33,10 +33,10 @@ share-below-requires c κs = search needs
 returns-2 : tie.Need-returns-2
 returns-2 c =
     let x = c .before in
-    let r = x .before in
+    let r = x .before .before in
     let m = r .before in
     let a = m .before .before .before .before .args in (
-      share-level (a .e) (readCorrection (a .n) (a .bytes .now)) (a .seed) (a .b) (packedBit (a .prefix .now)) (a .k) (omega arith) (r .read-correction .ensures) (x .bit-at .ensures) (m .node-at .ensures) (c .share-below .ensures .0),
+      share-level (a .e) (readCorrection (a .n) (a .bytes .now)) (a .seed) (a .b) (packedBit (a .prefix .now)) (a .k) (omega arith) (r .read-level .ensures .0) (x .bit-at .ensures) (m .node-at .ensures) (c .share-below .ensures .0),
       c .share-below .ensures .1,
     )
 
@@ -47,7 +47,7 @@ share-at-spec =
     returns
     sub-up
     node-at-requires
-    read-correction-requires
+    read-level-requires
     cast-bit-at
     bit-at-requires
     share-below-requires

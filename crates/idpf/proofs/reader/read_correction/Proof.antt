@@ -1,4 +1,4 @@
--- `idpf::walk::read_correction` meets its contract. Assumes nothing.
+-- `idpf::reader::read_correction` meets its contract. Assumes nothing.
 use mathlib.Core.Path.{ap, _∙_}
 use Prim.Native.Nat.{ℕ, _+_, _*_, _%_}
 use Rattle.bits.specs.Numbers.{fromLittle}
@@ -6,8 +6,8 @@ use Rattle.bits.specs.Places.{window}
 use Rattle.point.specs.PublicShare.{binaryDigit, readCorrection}
 use Rattle.idpf.proofs.Descent.{same-correction}
 use borrow.Author.Needs.{needs}
-use Rattle.idpf.proofs.walk.read_correction.Statement.{statement}
-use Rattle.idpf.proofs.walk.read_correction.Tie as tie
+use Rattle.idpf.proofs.reader.read_correction.Statement.{statement}
+use Rattle.idpf.proofs.reader.read_correction.Tie as tie
 
 level-start-requires : tie.Need-level-start-requires
 level-start-requires c κs = search needs
