@@ -64,7 +64,13 @@ pub(crate) fn share_below(e: Expander, b: bool, c: Correction, x: bool, m: Node)
     if b { negated } else { v }
 }
 
-// Server b's node at the first k bits of a packed prefix, from its root seed.
+// A server's node on its way down, and the level that its reader reads next.
+pub(crate) struct Reached {
+    pub(crate) node: Node,
+    pub(crate) next: u16,
+}
+
+// Server b's node at the first k bits of a packed prefix, from its root seed, and the level below it.
 pub(crate) fn node_at(
     e: Expander,
     n: u16,
@@ -73,17 +79,24 @@ pub(crate) fn node_at(
     b: bool,
     prefix: &[u8],
     k: u16,
-) -> Node
-    ensures { λ r. ⌜ nodeOf r ≡ node (scheme e) (readCorrection n (now (bytes .entry))) seed b (packedBit (now (prefix .entry))) k ⌝ }
+) -> Reached
+    ensures { λ r. ⌜ (nodeOf (r .node) ≡ node (scheme e) (readCorrection n (now (bytes .entry))) seed b (packedBit (now (prefix .entry))) k) × (r .next ≡ k) ⌝ }
 {
     if k == 0 {
-        return Node { seed, bit: b };
+        return Reached {
+            node: Node { seed, bit: b },
+            next: 0,
+        };
     }
     let up = k - 1;
-    let m = node_at(e, n, bytes, seed, b, prefix, up);
-    let level = read_level(n, bytes, up);
+    let above = node_at(e, n, bytes, seed, b, prefix, up);
+    let level = read_level(n, bytes, above.next);
     let word = level.word;
-    descend(e, word, bits::packing::bit_at(prefix, up as usize), m)
+    let m = above.node;
+    Reached {
+        node: descend(e, word, bits::packing::bit_at(prefix, up as usize), m),
+        next: level.next,
+    }
 }
 
 // Server b's share at the first k bits of a packed prefix, from its root seed; 0 at the empty prefix.
@@ -102,8 +115,9 @@ pub(crate) fn share_at(
         return 0;
     }
     let up = k - 1;
-    let m = node_at(e, n, bytes, seed, b, prefix, up);
-    let level = read_level(n, bytes, up);
+    let above = node_at(e, n, bytes, seed, b, prefix, up);
+    let level = read_level(n, bytes, above.next);
     let word = level.word;
+    let m = above.node;
     share_below(e, b, word, bits::packing::bit_at(prefix, up as usize), m)
 }
