@@ -1,6 +1,5 @@
 pub mod Nodes
 pub mod Descent
-pub mod Readers
 pub mod Lent
 pub mod LentPrefix
 pub mod Siblings

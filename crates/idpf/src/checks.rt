@@ -16,12 +16,12 @@ pub(crate) fn payloads_below(n: u16, share: &[u8]) -> bool
 {
     let mut k = 0;
     while k < n {
-        let level = read_level(n, share, k);
+        let level = read_level(share, n, k);
         let word = level.word;
         if group::P <= word.payload {
             return false;
         }
-        k = level.next;
+        k = level.after;
     }
     true
 }

@@ -1,4 +1,4 @@
-// The incremental distributed point function: the key maker, and a server's share for a query.
+// The incremental distributed point function: the key maker, the reader of a public share, and a server's share for a query.
 mod checks;
 mod keys;
 mod layout;

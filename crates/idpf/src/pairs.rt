@@ -56,10 +56,9 @@ fn shares_below(
     ensures { λ r. ⌜ (r .second ≡ share (scheme e) (readCorrection n (now (bytes .entry))) seed b (packedBit (now (second .entry))) k) × (r .second < p) ⌝ }
 {
     let up = k - 1;
-    let above = node_at(e, n, bytes, seed, b, first, up);
-    let level = read_level(n, bytes, above.next);
+    let m = node_at(e, n, bytes, seed, b, first, up);
+    let level = read_level(bytes, n, up);
     let word = level.word;
-    let m = above.node;
     let x = bits::packing::bit_at(first, up as usize);
     let y = bits::packing::bit_at(second, up as usize);
     Sums {

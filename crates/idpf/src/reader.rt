@@ -7,16 +7,16 @@ ghost use Rattle.point.specs.PublicShare.{readCorrection};
 ghost use Rattle.idpf.specs.Layout.{correctionOf};
 
 // A lent public share, its number of levels, and the level that is read next.
-pub(crate) struct ShareReader<'a> {
-    pub(crate) share: &'a [u8],
-    pub(crate) levels: u16,
-    pub(crate) next: u16,
+struct ShareReader<'a> {
+    share: &'a [u8],
+    levels: u16,
+    next: u16,
 }
 
 // A level that was read: its correction word, and the level after it.
 pub(crate) struct LevelRead {
     pub(crate) word: Correction,
-    pub(crate) next: u16,
+    pub(crate) after: u16,
 }
 
 // The correction word of level k, of n, in a public share.
@@ -36,7 +36,7 @@ fn read_correction(bytes: &[u8], n: u16, k: u16) -> Correction
 }
 
 impl<'a> ShareReader<'a> {
-    // A reader of a public share of that many levels, at the level to read next.
+    // A reader of a public share of `levels` levels, at level `next`.
     fn at_level(share: &'a [u8], levels: u16, next: u16) -> ShareReader<'a>
         ensures { λ r. ⌜ (r .share ≡ share .entry) × (r .levels ≡ levels) × (r .next ≡ next) ⌝ }
     {
@@ -54,7 +54,7 @@ impl<'a> ShareReader<'a> {
         read_correction(self.share, self.levels, self.next)
     }
 
-    // The reader handed on to the level after the next.
+    // The reader handed on by one level.
     fn advanced(self) -> ShareReader<'a>
         requires { ⌜ self .next < 65535 ⌝ }
         ensures { λ r. ⌜ (r .share ≡ self .entry .share) × (r .levels ≡ self .entry .levels) × (r .next ≡ self .entry .next + 1) ⌝ }
@@ -67,16 +67,16 @@ impl<'a> ShareReader<'a> {
     }
 }
 
-// Reads level k, of n, of a public share, by a reader at that level.
-pub(crate) fn read_level(n: u16, bytes: &[u8], k: u16) -> LevelRead
+// The correction word of level k, of n, and the level after it, by a reader made at level k.
+pub(crate) fn read_level(bytes: &[u8], n: u16, k: u16) -> LevelRead
     requires { ⌜ k < 65535 ⌝ }
-    ensures { λ r. ⌜ (correctionOf (r .word) ≡ readCorrection n (now (bytes .entry)) k) × (r .next ≡ k + 1) ⌝ }
+    ensures { λ r. ⌜ (correctionOf (r .word) ≡ readCorrection n (now (bytes .entry)) k) × (r .after ≡ k + 1) ⌝ }
 {
     let reader = ShareReader::at_level(bytes, n, k);
     let word = reader.correction();
     let on = reader.advanced();
     LevelRead {
         word,
-        next: on.next,
+        after: on.next,
     }
 }

@@ -64,13 +64,7 @@ pub(crate) fn share_below(e: Expander, b: bool, c: Correction, x: bool, m: Node)
     if b { negated } else { v }
 }
 
-// A server's node on its way down, and the level that its reader reads next.
-pub(crate) struct Reached {
-    pub(crate) node: Node,
-    pub(crate) next: u16,
-}
-
-// Server b's node at the first k bits of a packed prefix, from its root seed, and the level below it.
+// Server b's node at the first k bits of a packed prefix, from its root seed.
 pub(crate) fn node_at(
     e: Expander,
     n: u16,
@@ -79,24 +73,17 @@ pub(crate) fn node_at(
     b: bool,
     prefix: &[u8],
     k: u16,
-) -> Reached
-    ensures { λ r. ⌜ (nodeOf (r .node) ≡ node (scheme e) (readCorrection n (now (bytes .entry))) seed b (packedBit (now (prefix .entry))) k) × (r .next ≡ k) ⌝ }
+) -> Node
+    ensures { λ r. ⌜ nodeOf r ≡ node (scheme e) (readCorrection n (now (bytes .entry))) seed b (packedBit (now (prefix .entry))) k ⌝ }
 {
     if k == 0 {
-        return Reached {
-            node: Node { seed, bit: b },
-            next: 0,
-        };
+        return Node { seed, bit: b };
     }
     let up = k - 1;
-    let above = node_at(e, n, bytes, seed, b, prefix, up);
-    let level = read_level(n, bytes, above.next);
+    let m = node_at(e, n, bytes, seed, b, prefix, up);
+    let level = read_level(bytes, n, up);
     let word = level.word;
-    let m = above.node;
-    Reached {
-        node: descend(e, word, bits::packing::bit_at(prefix, up as usize), m),
-        next: level.next,
-    }
+    descend(e, word, bits::packing::bit_at(prefix, up as usize), m)
 }
 
 // Server b's share at the first k bits of a packed prefix, from its root seed; 0 at the empty prefix.
@@ -115,9 +102,8 @@ pub(crate) fn share_at(
         return 0;
     }
     let up = k - 1;
-    let above = node_at(e, n, bytes, seed, b, prefix, up);
-    let level = read_level(n, bytes, above.next);
+    let m = node_at(e, n, bytes, seed, b, prefix, up);
+    let level = read_level(bytes, n, up);
     let word = level.word;
-    let m = above.node;
     share_below(e, b, word, bits::packing::bit_at(prefix, up as usize), m)
 }

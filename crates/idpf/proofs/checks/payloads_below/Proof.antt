@@ -39,7 +39,7 @@ returns c =
     let l = c .before .before .before .before .before in
     let a = l .before .before .args in
     sym (every-false (a .n) (below (a .n) (a .share .now)) (l .loop .k) (omega (arith, c .before .before .before .before .loop-test .taken))
-    (sym (ap payload-test (c .before .before .before .read-level .ensures .0)) ∙ le-ltb _ p (c .if1 .taken)))
+    (sym (ap payload-test (c .before .before .before .read-level .ensures .0)) ∙ le-ltb (c .before .before .before .read-level .result .word .payload) p (omega (arith, c .if1 .taken))))
 
 loop-less : tie.Need-loop-less Inv-loop μ-loop
 loop-less c = omega (arith, c .before .before .before .read-level .ensures .1)

@@ -1,6 +1,4 @@
 -- `idpf::pairs::shares_below` meets its contract. The parent's node is the same for both prefixes. Assumes nothing.
-use mathlib.Core.Path.{ap, _∙_}
-use native.Mathlib.Omega.{arith}
 use borrow.Author.Needs.{needs}
 use Rattle.point.specs.PublicShare.{readCorrection}
 use Rattle.idpf.specs.Reports.{packedBit}
@@ -16,7 +14,7 @@ node-at-requires : tie.Need-node-at-requires
 node-at-requires c κs = search needs
 
 read-level-requires : tie.Need-read-level-requires
-read-level-requires c κs = omega (arith, c .node-at .ensures .1, c .before .before .before .before .pre .some-bits)
+read-level-requires c κs = search needs
 
 cast-bit-at : tie.Need-cast-bit-at
 cast-bit-at c = search needs
@@ -41,19 +39,18 @@ returns c =
     let f = c .before in
     let y = f .before in
     let x = y .before in
-    let r = x .before .before .before in
+    let r = x .before .before in
     let m = r .before in
     let s = m .before .before .before .before in
     let a = s .args in
-    let words = readCorrection (a .n) (a .bytes .now) in
-    let word = r .read-level .ensures .0 ∙ ap words (m .node-at .ensures .1) in (
+    let words = readCorrection (a .n) (a .bytes .now) in (
       (
-        share-level (a .e) words (a .seed) (a .b) (packedBit (a .first .now)) (a .k) (s .pre .some-bits) word (x .bit-at .ensures) (m .node-at .ensures .0) (f .share-below .ensures .0),
+        share-level (a .e) words (a .seed) (a .b) (packedBit (a .first .now)) (a .k) (s .pre .some-bits) (r .read-level .ensures .0) (x .bit-at .ensures) (m .node-at .ensures) (f .share-below .ensures .0),
         f .share-below .ensures .1,
       ),
       (
-        share-level (a .e) words (a .seed) (a .b) (packedBit (a .second .now)) (a .k) (s .pre .some-bits) word (y .bit-at2 .ensures)
-            (parent-node (a .e) words (a .seed) (a .b) (a .first .now) (a .second .now) (a .k) (s .pre) (m .node-at .ensures .0)) (c .share-below2 .ensures .0),
+        share-level (a .e) words (a .seed) (a .b) (packedBit (a .second .now)) (a .k) (s .pre .some-bits) (r .read-level .ensures .0) (y .bit-at2 .ensures)
+            (parent-node (a .e) words (a .seed) (a .b) (a .first .now) (a .second .now) (a .k) (s .pre) (m .node-at .ensures)) (c .share-below2 .ensures .0),
         c .share-below2 .ensures .1,
       ),
     )

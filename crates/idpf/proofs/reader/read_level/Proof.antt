@@ -50,7 +50,7 @@ use Rattle.idpf.proofs.node.Correction as C
 use Rattle.idpf.proofs.node.Correction.Laws as C′
 use Rattle.idpf.proofs.reader.LevelRead as R
 use Rattle.idpf.proofs.reader.ShareReader.Laws as T′
-use Rattle.idpf.proofs.Readers.{Reader, Held, twice, typed-local, lowers, next-fits}
+use Rattle.idpf.proofs.reader.Held.{Reader, Held, twice, typed-local, lowers, next-fits}
 use Rattle.idpf.proofs.reader.ShareReader.at_level as at-level
 use Rattle.idpf.proofs.reader.ShareReader.at_level.Symbol as at-level-def
 use Rattle.idpf.proofs.reader.ShareReader.at_level.Symbol.{name as #at-level}
@@ -69,7 +69,7 @@ use Rattle.idpf.proofs.reader.read_level.Statement as stated
 use Rattle.idpf.proofs.reader.read_level.Code as code
 
 abbrev stayed : Stays (read-level.ended .signature .params) (read-level.ended .kept)
-stayed = (stay-none (λ _. u16) yes, (stay-none-slice (0 ∷ []) tt (plain (λ _. u8)) yes, (stay-none (λ _. u16) yes, tt)))
+stayed = (stay-none-slice (0 ∷ []) tt (plain (λ _. u8)) yes, (stay-none (λ _. u16) yes, (stay-none (λ _. u16) yes, tt)))
 
 module _ {M : Type 1} (𝓤 : URA M) (H : Heap 𝓤) (A : Atoms 𝓤) (mem : Memory → SProp 𝓤) (run : Routine → Fun 𝓤) where
   -- the contracts that the proof cites
@@ -98,25 +98,25 @@ module _ {M : Type 1} (𝓤 : URA M) (H : Heap 𝓤) (A : Atoms 𝓤) (W : Given
   v = sliceVal (s .ptr) (length (s .now))
 
   abbrev at : Vals read-level.signature (κ, tt)
-  at = (vint w16 n ∷ [], (v ∷ [], (vint w16 k ∷ [], tt)))
+  at = (v ∷ [], (vint w16 n ∷ [], (vint w16 k ∷ [], tt)))
 
   abbrev Post : Val → SProp 𝓤
-  Post = walkOf 𝓤 H A read-level.ended stayed (read-level.clauses 𝓤 H A mem run) .post (((κ, tt), (q, tt), tt, (n, (s, (k, tt))), at), tt)
+  Post = walkOf 𝓤 H A read-level.ended stayed (read-level.clauses 𝓤 H A mem run) .post (((κ, tt), (q, tt), tt, (s, (n, (k, tt))), at), tt)
 
   abbrev Own : Fml
   Own = ShrSlice (named 0) κ u8 .own s (v ∷ [])
 
   -- ---- the reader is made
   abbrev to-at : AtLevel 𝓤 H A mem run .Ghost
-  to-at = (((κ, tt), (q, tt), tt, (s, (n, (k, tt))), (v ∷ [], (vint w16 n ∷ [], (vint w16 k ∷ [], tt)))), tt)
+  to-at = (((κ, tt), (q, tt), tt, (s, (n, (k, tt))), at), tt)
 
-  goes-at : ent 𝓤 (onEntry 𝓤 H A read-level.signature (κ, tt) (q, tt) (n, (s, (k, tt))) at) (sep 𝓤 (AtLevel 𝓤 H A mem run .pre to-at) (sem 𝓤 H A Own))
+  goes-at : ent 𝓤 (onEntry 𝓤 H A read-level.signature (κ, tt) (q, tt) (s, (n, (k, tt))) at) (sep 𝓤 (AtLevel 𝓤 H A mem run .pre to-at) (sem 𝓤 H A Own))
   goes-at =
-      qed W ((‵ (flft κ q) ⊛ ‵ ftrue) ∷ ‵ (owns (u16 ∷ ShrSlice (named 0) κ u8 ∷ u16 ∷ []) (n, (s, (k, tt))) at) ∷ []) ∵
-      move ! (1 ∷ []) $ fsplit ! $ drop ! $ fsplit ! $ move ! (1 ∷ []) $ drop ! $ use1 W (‵ Own ⊛ ‵ Own) (shr-slice-copy 𝓤 H A W (named 0) κ u8 .twice s (v ∷ [])) $ split ! $
-      -- [what the slice owns, twice; the token]
-      nothing ! $ owned ! u16 (Is u16) (uint-makes 𝓤 H A W w16) k _ (refl, k-fits) $ fjoin ! $ owned ! u16 (Is u16) (uint-makes 𝓤 H A W w16) n _ (refl, n-fits) $ fjoin ! $ move ! (1 ∷ 0 ∷ []) $ fjoin ! $
-      move ! (2 ∷ 0 ∷ []) $ use2 W (raw (AtLevel 𝓤 H A mem run .pre to-at)) (qed W ((‵ (flft κ q) ⊛ ‵ ftrue) ∷ ‵ (owns (ShrSlice (named 0) κ u8 ∷ u16 ∷ u16 ∷ []) (s, (n, (k, tt))) (v ∷ [], (vint w16 n ∷ [], (vint w16 k ∷ [], tt)))) ∷ []) ∵ join ! $ frame ! $ done !) $ frame ! $ done !
+      qed W ((‵ (flft κ q) ⊛ ‵ ftrue) ∷ ‵ (owns (ShrSlice (named 0) κ u8 ∷ u16 ∷ u16 ∷ []) (s, (n, (k, tt))) at) ∷ []) ∵
+      move ! (1 ∷ []) $ fsplit ! $ use1 W (‵ Own ⊛ ‵ Own) (shr-slice-copy 𝓤 H A W (named 0) κ u8 .twice s (v ∷ [])) $ split ! $
+      -- [what the slice owns, twice; what the numbers own; the token]
+      move ! (0 ∷ 2 ∷ []) $ fjoin ! $ move ! (2 ∷ 0 ∷ []) $
+      use2 W (raw (AtLevel 𝓤 H A mem run .pre to-at)) (qed W ((‵ (flft κ q) ⊛ ‵ ftrue) ∷ ‵ (owns (ShrSlice (named 0) κ u8 ∷ u16 ∷ u16 ∷ []) (s, (n, (k, tt))) at) ∷ []) ∵ join ! $ frame ! $ done !) $ frame ! $ done !
 
   at-said : (r : ShareReader) → ent 𝓤 (ensured 𝓤 H A at-level.ended (at-level.clauses 𝓤 H A mem run) (κ, tt) (s, (n, (k, tt))) tt r) (fact 𝓤 (Made s n k r))
   at-said r = exE 𝓤 _ (λ ws. snd∗ 𝓤 (sem 𝓤 H A (lasts at-level.ended (κ, tt) (s, (n, (k, tt))) ws)) (fact 𝓤 (Made s n k r)))
@@ -150,22 +150,22 @@ module _ {M : Type 1} (𝓤 : URA M) (H : Heap 𝓤) (A : Atoms 𝓤) (W : Given
       → ent 𝓤 (⋆ 𝓤 H A ((‵ (flft κ q) ⊛ ‵ ftrue) ∷ ‵ (C.the-row .own c (u ∷ [])) ∷ ‵ Own ∷ [])) (Post (vstruct (vcons u (vcons (vint w16 m) vnil))))
   exits c u m m-fits e =
       qed W ((‵ (flft κ q) ⊛ ‵ ftrue) ∷ ‵ (C.the-row .own c (u ∷ [])) ∷ ‵ Own ∷ []) ∵
-      suffices ! _ (ends-at 𝓤 H A read-level.ended stayed (read-level.clauses 𝓤 H A mem run) W (((κ, tt), (q, tt), tt, (n, (s, (k, tt))), at), tt) (vstruct (vcons u (vcons (vint w16 m) vnil))) (record { word = c; next = m }) (tt, (tt, (tt, tt))) (tt, (tt, (tt, tt)))) $ says ! e $
+      suffices ! _ (ends-at 𝓤 H A read-level.ended stayed (read-level.clauses 𝓤 H A mem run) W (((κ, tt), (q, tt), tt, (s, (n, (k, tt))), at), tt) (vstruct (vcons u (vcons (vint w16 m) vnil))) (record { word = c; after = m }) (tt, (tt, (tt, tt))) (tt, (tt, (tt, tt)))) $ says ! e $
       frame ! $
       -- [what the word owns; what the slice owns]: the parameters first
-      nothing ! $ owned ! u16 (Is u16) (uint-makes 𝓤 H A W w16) k _ (refl, k-fits) $ fjoin ! $ move ! (2 ∷ 0 ∷ []) $ fjoin ! $ owned ! u16 (Is u16) (uint-makes 𝓤 H A W w16) n _ (refl, n-fits) $ fjoin ! $ frame ! $
+      nothing ! $ owned ! u16 (Is u16) (uint-makes 𝓤 H A W w16) k _ (refl, k-fits) $ fjoin ! $ owned ! u16 (Is u16) (uint-makes 𝓤 H A W w16) n _ (refl, n-fits) $ fjoin ! $ move ! (2 ∷ 0 ∷ []) $ fjoin ! $ frame ! $
       nothing ! $ owned ! u16 (Is u16) (uint-makes 𝓤 H A W w16) m _ (refl, m-fits) $ fjoin ! $ move ! (1 ∷ 0 ∷ []) $ fjoin ! $
       by ! (makes 𝓤 H A W (fields R.the-type) (both c m) (u ∷ [], (vint w16 m ∷ [], tt)))
 
   module _ (C₀ : Calls 𝓤 H) (Λ : Loops 𝓤 H) (fm : FmC 𝓤 H (W .laws) C₀) (known-at : Triple 𝓤 (C₀ #at-level) (AtLevel 𝓤 H A mem run)) (known-word : Triple 𝓤 (C₀ #correction) (Word 𝓤 H A mem run)) (known-on : Triple 𝓤 (C₀ #advanced) (Advanced 𝓤 H A mem run)) where
-    walk : Is (ShrSlice (named 0) κ u8) s (v ∷ []) → k < 65535 → ent 𝓤 (onEntry 𝓤 H A read-level.signature (κ, tt) (q, tt) (n, (s, (k, tt))) at) (WpFn 𝓤 H C₀ Λ code.function (vint w16 n ∷ v ∷ vint w16 k ∷ []) Post)
+    walk : Is (ShrSlice (named 0) κ u8) s (v ∷ []) → k < 65535 → ent 𝓤 (onEntry 𝓤 H A read-level.signature (κ, tt) (q, tt) (s, (n, (k, tt))) at) (WpFn 𝓤 H C₀ Λ code.function (v ∷ vint w16 n ∷ vint w16 k ∷ []) Post)
     walk p below =
-        qed W (raw (onEntry 𝓤 H A read-level.signature (κ, tt) (q, tt) (n, (s, (k, tt))) at) ∷ []) ∵ enter ! C₀ Λ code.function (vint w16 n ∷ v ∷ vint w16 k ∷ []) _ $
+        qed W (raw (onEntry 𝓤 H A read-level.signature (κ, tt) (q, tt) (s, (n, (k, tt))) at) ∷ []) ∵ enter ! C₀ Λ code.function (v ∷ vint w16 n ∷ vint w16 k ∷ []) _ $
         alloc1 ! (λ l₀. alloc1 ! (λ l₁. alloc1 ! (λ l₂. alloc1 ! (λ l₃. alloc1 ! (λ l₄. alloc1 ! (λ l₅. alloc1 ! (λ l₆. alloc1 ! (λ l₇. alloc1 ! (λ l₈. alloc1 ! (λ l₉. alloc0 ! $ params1 ! $
-        pass1 ! (init ! 16 refl (tt, record { fits = n-fits })) $ pass1 ! (init ! 14 refl (shr-slice-lawful 𝓤 H A W (named 0) κ u8 .typed s (v ∷ []) p .0)) $ pass1 ! (init ! 12 refl (tt, record { fits = k-fits })) $ pass0 ! $
-        -- [_9; …; _8; …; _7; …; _6; …; _5; …; _4; …; k; …; bytes; …; n; …; room for the result; …; the token and what the parameters own]
+        pass1 ! (init ! 16 refl (shr-slice-lawful 𝓤 H A W (named 0) κ u8 .typed s (v ∷ []) p .0)) $ pass1 ! (init ! 14 refl (tt, record { fits = n-fits })) $ pass1 ! (init ! 12 refl (tt, record { fits = k-fits })) $ pass0 ! $
+        -- [_9; …; _8; …; _7; …; _6; …; _5; …; _4; …; k; …; n; …; bytes; …; room for the result; …; the token and what the parameters own]
         move ! (20 ∷ []) $ use1 W (raw (AtLevel 𝓤 H A mem run .pre to-at) ⊛ ‵ Own) goes-at $ split ! $
-        calls-at ! fm (AtLevel 𝓤 H A mem run) known-at to-at (and-then ! (load ! (from ! (stop !)) (look ! 16 refl)) (and-then ! (load ! (from ! (stop !)) (look ! 18 refl)) (and-then ! (load ! (from ! (stop !)) (look ! 14 refl)) (no-more !)))) (λ u.
+        calls-at ! fm (AtLevel 𝓤 H A mem run) known-at to-at (and-then ! (load ! (from ! (stop !)) (look ! 18 refl)) (and-then ! (load ! (from ! (stop !)) (look ! 16 refl)) (and-then ! (load ! (from ! (stop !)) (look ! 14 refl)) (no-more !)))) (λ u.
         use1 W (later (some (λ (r : ShareReader). ((‵ (flft κ q) ⊛ ‵ ftrue) ⊛ ‵ (Held (κ, tt) r u)) ⊛ raw (ensured 𝓤 H A at-level.ended (at-level.clauses 𝓤 H A mem run) (κ, tt) (s, (n, (k, tt))) tt r)))) (id⊢ 𝓤 _) $ await ! tt $ pick ! (λ r.
         split ! $ move ! (1 ∷ []) $ use1 W (raw (fact 𝓤 (Made s n k r))) (at-said r) $ heard ! (Made s n k r) (λ made. split ! $ move ! (1 ∷ []) $
         -- [what the reader owns; the token; what the slice owns; _9; …; _8; …; _7; …; _6; …; _5; …; room for the reader; …]
@@ -202,15 +202,15 @@ module _ {M : Type 1} (𝓤 : URA M) (H : Heap 𝓤) (A : Atoms 𝓤) (W : Given
   walks : (C₀ : Calls 𝓤 H) (Λ : Loops 𝓤 H) → FmC 𝓤 H (W .laws) C₀ → Triple 𝓤 (C₀ #at-level) (AtLevel 𝓤 H A mem run) → Triple 𝓤 (C₀ #correction) (Word 𝓤 H A mem run) → Triple 𝓤 (C₀ #advanced) (Advanced 𝓤 H A mem run)
       → Walks 𝓤 H A read-level.ended stayed (WpFn 𝓤 H C₀ Λ code.function) (read-level.clauses 𝓤 H A mem run)
   walks C₀ Λ fm known-at known-word known-on =
-      walked 𝓤 H A read-level.ended stayed (read-level.clauses 𝓤 H A mem run) (WpFn 𝓤 H C₀ Λ code.function) (λ κs. (uint-vals w16, (slice-vals, (uint-vals w16, tt)))) (λ κs. (uint-tells w16, (shr-slice-tells (named 0) (κs .0) u8, (uint-tells w16, tt))))
-      (λ κs qs bounds a g are. needs 𝓤 _ _ (λ below. walk 𝓤 H A W mem run (κs .0) (qs .0) (a .1 .0) (a .0) (a .1 .1 .0) (are .0 .1) (are .1 .1 .0 .1) C₀ Λ fm known-at known-word known-on (are .1 .0) below))
+      walked 𝓤 H A read-level.ended stayed (read-level.clauses 𝓤 H A mem run) (WpFn 𝓤 H C₀ Λ code.function) (λ κs. (slice-vals, (uint-vals w16, (uint-vals w16, tt)))) (λ κs. (shr-slice-tells (named 0) (κs .0) u8, (uint-tells w16, (uint-tells w16, tt))))
+      (λ κs qs bounds a g are. needs 𝓤 _ _ (λ below. walk 𝓤 H A W mem run (κs .0) (qs .0) (a .0) (a .1 .0) (a .1 .1 .0) (are .1 .0 .1) (are .1 .1 .0 .1) C₀ Λ fm known-at known-word known-on (are .0) below))
 
 meets : {M : Type 1} (𝓤 : URA M) (H : Heap 𝓤) (A : Atoms 𝓤) (W : Given 𝓤 H A) (mem : Memory → SProp 𝓤) (run : Routine → Fun 𝓤) (𝓣 : Tables 𝓤 H)
     → Triple 𝓤 (𝓣 .C #at-level) (AtLevel 𝓤 H A mem run) → Triple 𝓤 (𝓣 .C #correction) (Word 𝓤 H A mem run) → Triple 𝓤 (𝓣 .C #advanced) (Advanced 𝓤 H A mem run)
     → Meets 𝓤 H A read-level.signature (WpFn 𝓤 H (𝓣 .C) (𝓣 .Λ) code.function) (read-level.spec 𝓤 H A mem run)
 meets 𝓤 H A W mem run 𝓣 known-at known-word known-on =
     walk-meets 𝓤 H A read-level.ended stayed W
-    (goes-none 𝓤 H A W 1 (λ _. u16) yes (λ κs x f. refl), (goes-none-slice 𝓤 H A W 1 (0 ∷ []) tt (plain (λ _. u8)) yes, (goes-none 𝓤 H A W 1 (λ _. u16) yes (λ κs x f. refl), tt)))
+    (goes-none-slice 𝓤 H A W 1 (0 ∷ []) tt (plain (λ _. u8)) yes, (goes-none 𝓤 H A W 1 (λ _. u16) yes (λ κs x f. refl), (goes-none 𝓤 H A W 1 (λ _. u16) yes (λ κs x f. refl), tt)))
     (read-level.clauses 𝓤 H A mem run) (WpFn 𝓤 H (𝓣 .C) (𝓣 .Λ) code.function) (WpFn-mono 𝓤 H (W .laws) 𝓣 code.function)
     (walks 𝓤 H A W mem run (𝓣 .C) (𝓣 .Λ) (fmOf 𝓤 H (W .laws) 𝓣) known-at known-word known-on)
 

@@ -1,5 +1,4 @@
 -- `idpf::walk::node_at` meets its contract. The measure is the number of bits. Assumes nothing.
-use mathlib.Core.Path.{sym, ap, _∙_}
 use native.Mathlib.Omega.{arith}
 use Rattle.point.specs.PublicShare.{readCorrection}
 use Rattle.idpf.specs.Reports.{packedBit}
@@ -41,7 +40,7 @@ calls t = (
 node-at-returns : (t : ℕ) → node-at-lts.Need-returns (calls t) (node-at-at t) node-at.Post
 node-at-returns t c =
     let a = c .before .before .before .args in
-    (node-root (a .e) (readCorrection (a .n) (a .bytes .now)) (a .seed) (a .b) (packedBit (a .prefix .now)) (a .k) (c .if1 .taken), sym (c .if1 .taken))
+    node-root (a .e) (readCorrection (a .n) (a .bytes .now)) (a .seed) (a .b) (packedBit (a .prefix .now)) (a .k) (c .if1 .taken)
 
 node-at-sub-up : (t : ℕ) → node-at-lts.Need-sub-up (calls t) (node-at-at t) node-at.Post
 node-at-sub-up t c = omega arith
@@ -50,7 +49,7 @@ node-at-node-at-requires : (t : ℕ) → node-at-lts.Need-node-at-requires (call
 node-at-node-at-requires t c κs = omega (arith, c .before .before .before .pre .0)
 
 node-at-read-level-requires : (t : ℕ) → node-at-lts.Need-read-level-requires (calls t) (node-at-at t) node-at.Post
-node-at-read-level-requires t c κs = omega (arith, c .node-at .ensures .1)
+node-at-read-level-requires t c κs = omega arith
 
 node-at-cast-bit-at : (t : ℕ) → node-at-lts.Need-cast-bit-at (calls t) (node-at-at t) node-at.Post
 node-at-cast-bit-at t c = omega arith
@@ -64,13 +63,10 @@ node-at-descend-requires t c κs = tt
 node-at-returns-2 : (t : ℕ) → node-at-lts.Need-returns-2 (calls t) (node-at-at t) node-at.Post
 node-at-returns-2 t c =
     let x = c .before in
-    let r = x .before .before .before in
+    let r = x .before .before in
     let m = r .before in
     let a = m .before .before .before .before .args in
-    let words = readCorrection (a .n) (a .bytes .now) in (
-      node-level (a .e) words (a .seed) (a .b) (packedBit (a .prefix .now)) (a .k) (omega arith) (r .read-level .ensures .0 ∙ ap words (m .node-at .ensures .1)) (x .bit-at .ensures) (m .node-at .ensures .0) (c .descend .ensures),
-      omega (arith, r .read-level .ensures .1, m .node-at .ensures .1),
-    )
+    node-level (a .e) (readCorrection (a .n) (a .bytes .now)) (a .seed) (a .b) (packedBit (a .prefix .now)) (a .k) (omega arith) (r .read-level .ensures .0) (x .bit-at .ensures) (m .node-at .ensures) (c .descend .ensures)
 
 pub +node-at-spec : {M : Type 1} → statement M
 +node-at-spec = close μ-node-at λ t. node-at-lts.spec (calls t) (node-at-at t) node-at.Post

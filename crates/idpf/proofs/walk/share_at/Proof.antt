@@ -1,5 +1,4 @@
 -- `idpf::walk::share_at` meets its contract. Assumes nothing.
-use mathlib.Core.Path.{ap, _∙_}
 use native.Mathlib.Omega.{arith}
 use Rattle.point.specs.PublicShare.{readCorrection}
 use Rattle.idpf.specs.Reports.{packedBit}
@@ -20,7 +19,7 @@ node-at-requires : tie.Need-node-at-requires
 node-at-requires c κs = search needs
 
 read-level-requires : tie.Need-read-level-requires
-read-level-requires c κs = omega (arith, c .node-at .ensures .1)
+read-level-requires c κs = search needs
 
 cast-bit-at : tie.Need-cast-bit-at
 cast-bit-at c = search needs
@@ -34,11 +33,10 @@ share-below-requires c κs = search needs
 returns-2 : tie.Need-returns-2
 returns-2 c =
     let x = c .before in
-    let r = x .before .before .before in
+    let r = x .before .before in
     let m = r .before in
-    let a = m .before .before .before .before .args in
-    let words = readCorrection (a .n) (a .bytes .now) in (
-      share-level (a .e) words (a .seed) (a .b) (packedBit (a .prefix .now)) (a .k) (omega arith) (r .read-level .ensures .0 ∙ ap words (m .node-at .ensures .1)) (x .bit-at .ensures) (m .node-at .ensures .0) (c .share-below .ensures .0),
+    let a = m .before .before .before .before .args in (
+      share-level (a .e) (readCorrection (a .n) (a .bytes .now)) (a .seed) (a .b) (packedBit (a .prefix .now)) (a .k) (omega arith) (r .read-level .ensures .0) (x .bit-at .ensures) (m .node-at .ensures) (c .share-below .ensures .0),
       c .share-below .ensures .1,
     )
 

@@ -33,7 +33,7 @@ use denote.Triple.Walked.{says, needs, Stays, stay-none, walkOf, goes-none, Walk
 use denote.Exit.{yes}
 use Rattle.idpf.specs.declared.reader.ShareReader.{ShareReader}
 use Rattle.idpf.proofs.reader.ShareReader.Laws as T′
-use Rattle.idpf.proofs.Readers.{Reader, shape, laws, parts, vals, tells, Held, twice, typed}
+use Rattle.idpf.proofs.reader.Held.{Reader, shape, laws, parts, vals, tells, Held, twice, typed}
 use Rattle.idpf.proofs.reader.ShareReader.advanced.Key.{name as #advanced}
 use Rattle.idpf.proofs.reader.ShareReader.advanced as advanced
 use Rattle.idpf.proofs.reader.ShareReader.advanced.Statement as stated

@@ -35,7 +35,7 @@ use denote.Triple.Walked.{says, Stays, stay-none, stay-none-slice, walkOf, goes-
 use denote.Exit.{yes}
 use Rattle.idpf.specs.declared.reader.ShareReader.{ShareReader}
 use Rattle.idpf.proofs.reader.ShareReader.Laws as T′
-use Rattle.idpf.proofs.Readers.{shape, laws, parts}
+use Rattle.idpf.proofs.reader.Held.{shape, laws, parts}
 use Rattle.idpf.proofs.reader.ShareReader.at_level.Key.{name as #at-level}
 use Rattle.idpf.proofs.reader.ShareReader.at_level as at-level
 use Rattle.idpf.proofs.reader.ShareReader.at_level.Statement as stated

@@ -44,7 +44,7 @@ use Rattle.idpf.specs.declared.reader.ShareReader.{ShareReader}
 use Rattle.idpf.proofs.node.Correction as C
 use Rattle.idpf.proofs.node.Correction.Laws as C′
 use Rattle.idpf.proofs.reader.ShareReader.Laws as T′
-use Rattle.idpf.proofs.Readers.{Reader, shape, laws, parts, vals, tells, Held, twice, typed}
+use Rattle.idpf.proofs.reader.Held.{Reader, shape, laws, parts, vals, tells, Held, twice, typed}
 use Rattle.idpf.proofs.reader.read_correction as read
 use Rattle.idpf.proofs.reader.read_correction.Symbol as read-def
 use Rattle.idpf.proofs.reader.read_correction.Symbol.{name as #read}
