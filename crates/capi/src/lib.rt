@@ -10,7 +10,7 @@ ghost use Rattle.capi.specs.Block.{blockOutcome};
 ghost use Rattle.capi.specs.Combined.{kindNumber};
 ghost use Rattle.combine.specs.Combine.{combineOutcome, combineKind};
 ghost use Rattle.exam_text.specs.Exam.{examOutcome};
-ghost use Rattle.idpf.specs.Key.{keyOutcome};
+ghost use Rattle.keymaker.specs.Key.{keyOutcome};
 ghost use Rattle.idpf.specs.Share.{shareOutcome};
 ghost use Rattle.search.specs.Search.{lent, searchNumber, recordLength, listLength, recordAfter, listAfter};
 
@@ -63,7 +63,7 @@ pub extern "C" fn tally_key(
     ensures written { λ r. ⌜ r .length ≡ length (keyOutcome n expander (now (string .entry)) (now (seed0 .entry)) (now (seed1 .entry)) (length (now («public_share» .entry))) .written) ⌝ }
     ensures space { λ r. ⌜ now («public_share» .exit) ≡ overlay (keyOutcome n expander (now (string .entry)) (now (seed0 .entry)) (now (seed1 .entry)) (length (now («public_share» .entry))) .written) (now («public_share» .entry)) ⌝ }
 {
-    idpf::make_key(n, expander, string, seed0, seed1, public_share)
+    keymaker::make_key(n, expander, string, seed0, seed1, public_share)
 }
 
 // Writes a server's share for a query, 8 bytes a prefix; the server is told by a truth value, true for 1. Refuses with 1, 3, 4, 5, 6,

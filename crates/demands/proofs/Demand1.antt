@@ -15,10 +15,10 @@ use Rattle.calls.specs.Clauses.{Due}
 use Rattle.calls.proofs.Judged.{due-unique, judged-refused}
 use Rattle.point.specs.PublicShare.{publicShareLength}
 use Rattle.tree.specs.Query.{prefixLength, prefixCount}
-use Rattle.idpf.specs.Key.{keyClauses, keyOutcome}
+use Rattle.keymaker.specs.Key.{keyClauses, keyOutcome}
 use Rattle.idpf.specs.Share.{shareClauses, shareCauses, shareOutcome}
-use Rattle.idpf.proofs.KeyCauses.{nothing-written}
-use Rattle.idpf.proofs.KeyTheorems.{key-due}
+use Rattle.keymaker.proofs.KeyCauses.{nothing-written}
+use Rattle.keymaker.proofs.KeyTheorems.{key-due}
 use Rattle.idpf.proofs.ShareDue.{share-due}
 use Rattle.combine.specs.Answer.{next, list, ended, kind}
 use Rattle.combine.specs.Combine.{combineAnswer, combineBytes, combineClauses, combineCauses, combineOutcome, combineKind}

@@ -26,7 +26,7 @@ use Rattle.point.specs.Totals.{Report, reportCorrection, reportPublicShare}
 use Rattle.point.specs.Instance.{scheme}
 use Rattle.point.proofs.Honest.{report-bytes, report-passes}
 use Rattle.point.proofs.Instance.{scheme-lawful, p-fits}
-use Rattle.idpf.specs.Key.{keyCauses, keyBytes, keyOutcome}
+use Rattle.keymaker.specs.Key.{keyCauses, keyBytes, keyOutcome}
 use Rattle.demands.proofs.Made.{HonestReport}
 
 -- Any string of n bits and any two seeds of 16 bytes make an honest report.

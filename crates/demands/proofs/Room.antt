@@ -22,10 +22,10 @@ use Rattle.point.specs.PublicShare.{publicShareLength}
 use Rattle.tree.specs.Query.{OfLength, prefixLength, prefixCount}
 use Rattle.tree.proofs.Children.{children-longer}
 use Rattle.tree.proofs.Queries.{packs-length, query-length}
-use Rattle.idpf.specs.Key.{keyOutcome}
+use Rattle.keymaker.specs.Key.{keyOutcome}
 use Rattle.idpf.specs.Share.{shareOutcome}
-use Rattle.idpf.proofs.KeyCauses.{ready}
-use Rattle.idpf.proofs.KeyTheorems.{key-passes}
+use Rattle.keymaker.proofs.KeyCauses.{ready}
+use Rattle.keymaker.proofs.KeyTheorems.{key-passes}
 use Rattle.idpf.proofs.ShareOutcome as outcome
 use Rattle.combine.specs.Answer.{Answer, next, list, ended, further, answer, answerBytes, kind}
 use Rattle.combine.specs.Combine.{keptPrefixes, combineAnswer, combineBytes, passesLimit, combineCauses, combineOutcome, kindWith, combineKind}

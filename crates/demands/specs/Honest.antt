@@ -9,7 +9,7 @@ use Rattle.bits.specs.Packing.{pack}
 use Rattle.calls.specs.Causes.{Outcome, accepted}
 use Rattle.point.specs.PublicShare.{publicShareLength}
 use Rattle.tree.specs.Query.{OfLength}
-use Rattle.idpf.specs.Key.{keyOutcome}
+use Rattle.keymaker.specs.Key.{keyOutcome}
 use Rattle.idpf.specs.Reports.{seedAt, publicShareAt}
 use Rattle.search.specs.Search.{Lent, searchNumber, recordLength, listLength, recordAfter, listAfter}
 

@@ -11,7 +11,7 @@ use Rattle.bits.specs.Packing.{packedLength, pack}
 use Rattle.calls.specs.Causes.{Outcome}
 use Rattle.expander.specs.Expander.{isExpander}
 use Rattle.point.specs.PublicShare.{publicShareLength}
-use Rattle.idpf.specs.Key.{keyOutcome}
+use Rattle.keymaker.specs.Key.{keyOutcome}
 use Rattle.search.proofs.Outcome.{named-expander}
 use Rattle.demands.proofs.Pieces.{all-at}
 use Rattle.demands.proofs.Keys.{honest-report, key-accepted, key-passes}

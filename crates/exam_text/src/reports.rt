@@ -3,6 +3,7 @@ use crate::reading::read_seed;
 use crate::reading::read_string;
 use bits::numbers::write16;
 use bits::packing::packed_length;
+use nodes::public_share_length;
 ghost use mathlib.Core.Path.{_≡_};
 ghost use mathlib.Core.Bool.{true};
 ghost use mathlib.Core.List.{List, map};
@@ -12,18 +13,10 @@ ghost use Rattle.bits.specs.Packing.{pack};
 ghost use Rattle.bits.specs.Places.{putAt};
 ghost use Rattle.expander.specs.Expander.{isExpander};
 ghost use Rattle.point.specs.PublicShare.{publicShareLength};
-ghost use Rattle.idpf.specs.Key.{keyOutcome};
+ghost use Rattle.keymaker.specs.Key.{keyOutcome};
 ghost use Rattle.search.specs.Search.{lent};
 ghost use Rattle.demands.specs.Honest.{Honest};
 ghost use Rattle.exam_text.specs.Reader.{areHex, lineLength, lineOf, areLines, linesOf};
-
-// How many bytes the public share of a string of n bits takes.
-pub(crate) fn key_length(n: u16) -> usize
-    ensures { λ r. ⌜ r ≡ publicShareLength n ⌝ }
-{
-    let levels = n as usize;
-    (levels + 3) / 4 + 24 * levels
-}
 
 // The public share of a packed string of n bits into the places from `at` on.
 fn write_key(
@@ -38,8 +31,8 @@ fn write_key(
     requires { ⌜ (at + publicShareLength n ≤ length (now shares)) × (length (keyOutcome n expander (now string) (now seed0) (now seed1) (publicShareLength n) .written) ≡ publicShareLength n) ⌝ }
     ensures { λ _. ⌜ now (shares .exit) ≡ putAt (now (shares .entry)) at (keyOutcome n expander (now (string .entry)) (now (seed0 .entry)) (now (seed1 .entry)) (publicShareLength n) .written) ⌝ }
 {
-    let end = at + key_length(n);
-    idpf::make_key(
+    let end = at + public_share_length(n);
+    keymaker::make_key(
         n as u64,
         expander,
         string,
@@ -81,7 +74,7 @@ fn write_report(
         &seed0,
         &seed1,
         shares,
-        key_length(n) * i,
+        public_share_length(n) * i,
     );
 }
 

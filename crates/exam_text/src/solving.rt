@@ -1,9 +1,9 @@
 // The search of a sheet, and its answer.
 use crate::printing::print;
-use crate::reports::key_length;
 use crate::reports::write_reports;
 use bits::numbers::copy;
 use calls::Reply;
+use nodes::public_share_length;
 ghost use mathlib.Core.Path.{_≡_};
 ghost use mathlib.Core.Bool.{true};
 ghost use mathlib.Core.List.{[], _∷_};
@@ -77,7 +77,7 @@ fn print_answer(
 {
     write_reports(text, at, n, expander, count, seeds0, seeds1, shares);
     let seeds_end = 16 * (count as usize);
-    let shares_end = key_length(n) * (count as usize);
+    let shares_end = public_share_length(n) * (count as usize);
     search_printed(
         n,
         t,

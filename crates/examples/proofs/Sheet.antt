@@ -26,7 +26,7 @@ use Rattle.point.specs.Instance.{fieldScheme}
 use Rattle.tree.specs.Query.{packs, query, parts, sparesZero, isAscending, isQuery}
 use Rattle.tree.specs.Search.{heading, searchRecord, searchList}
 use Rattle.tree.specs.Cut.{honestRecord, honestList, cut}
-use Rattle.idpf.specs.Key.{keyBytes, keyOutcome}
+use Rattle.keymaker.specs.Key.{keyBytes, keyOutcome}
 use Rattle.idpf.specs.Reports.{sumBelow, lentShare, serverSum}
 use Rattle.idpf.specs.Share.{shareBytes, shareOutcome}
 use Rattle.exam_text.specs.Characters.{binary, decimalIn}

@@ -16,7 +16,7 @@ use Rattle.point.specs.PublicShare.{publicShareLength, levelStart}
 use Rattle.tree.specs.Query.{packs, query}
 use Rattle.tree.specs.Cut.{cuts}
 use Rattle.tree.specs.Space.{listSpace}
-use Rattle.idpf.specs.Key.{keyOutcome}
+use Rattle.keymaker.specs.Key.{keyOutcome}
 use Rattle.idpf.specs.Share.{shareOutcome}
 use Rattle.search.specs.Search.{Lent, searchNumber}
 use Rattle.demands.specs.Honest.{Accepted, recordRead, listRead, Honest}

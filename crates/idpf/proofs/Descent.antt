@@ -11,7 +11,7 @@ use Rattle.point.specs.Node.{Node, final, payloadOf}
 use Rattle.point.specs.Correction.{Correction, correctedChild}
 use Rattle.point.specs.Share.{descend, correctedPayload, shareBelow, node, share}
 use Rattle.point.specs.Instance.{fieldScheme, scheme}
-use Rattle.idpf.proofs.Nodes.{same-node}
+use Rattle.nodes.proofs.Nodes.{same-node}
 
 -- a correction word from its four parts
 pub same-correction : {s s′ : List ℕ} {l l′ r r′ : Bool} {v v′ : ℕ} → s ≡ s′ → l ≡ l′ → r ≡ r′ → v ≡ v′

@@ -1,14 +1,7 @@
-pub mod Nodes
 pub mod Descent
 pub mod Lent
 pub mod LentPrefix
 pub mod Siblings
-pub mod KeyLevel
-pub mod KeyControl
-pub mod KeyWriting
-pub mod KeyMaker
-pub mod KeyCauses
-pub mod KeyTheorems
 pub mod ShareChecks
 pub mod ShareOutcome
 pub mod ShareSums

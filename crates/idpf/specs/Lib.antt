@@ -1,5 +1,3 @@
-pub mod Layout
-pub mod Key
 pub mod Reports
 pub mod Share
 pub mod Siblings

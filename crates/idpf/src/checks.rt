@@ -1,7 +1,7 @@
 // The tests of causes 6 and 7 on lent public shares.
-use crate::layout::public_share_length;
 use crate::reader::read_level;
 use crate::reports::report_count;
+use nodes::public_share_length;
 ghost use mathlib.Core.Path.{_≡_};
 ghost use mathlib.Core.Bool.{not};
 ghost use Prim.Native.Nat.{_+_, _≤_};

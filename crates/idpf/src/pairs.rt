@@ -1,11 +1,11 @@
 // A server's sums at two prefixes: where these have one parent, each report's walk to it is made once.
-use crate::layout::public_share_length;
 use crate::reader::read_level;
 use crate::reports::report_count;
 use crate::reports::server_sum;
 use crate::walk::node_at;
 use crate::walk::share_below;
 use expander::Expander;
+use nodes::public_share_length;
 ghost use mathlib.Core.Path.{_≡_};
 ghost use mathlib.Core.Bool.{true, false};
 ghost use Prim.Native.Nat.{_<_};

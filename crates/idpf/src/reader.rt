@@ -1,10 +1,10 @@
 // A reader that walks one lent public share level by level, without copying it.
-use crate::layout::level_start;
-use crate::node::Correction;
+use nodes::Correction;
+use nodes::level_start;
 ghost use mathlib.Core.Path.{_≡_};
 ghost use Prim.Native.Nat.{_+_, _<_};
 ghost use Rattle.point.specs.PublicShare.{readCorrection};
-ghost use Rattle.idpf.specs.Layout.{correctionOf};
+ghost use Rattle.nodes.specs.Layout.{correctionOf};
 
 // A lent public share, its number of levels, and the level that is read next.
 struct ShareReader<'a> {

@@ -1,7 +1,7 @@
 // The reports that a server is lent, and its sum over them at one prefix.
-use crate::layout::public_share_length;
 use crate::walk::share_at;
 use expander::Expander;
+use nodes::public_share_length;
 ghost use mathlib.Core.Path.{_≡_};
 ghost use Prim.Native.Nat.{_<_};
 ghost use Rattle.group.specs.Modular.{p};

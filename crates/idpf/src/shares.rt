@@ -1,12 +1,12 @@
 // The call `share`: a server's share for a query.
 use crate::checks::all_payloads_below;
 use crate::checks::all_spare_bits_zero;
-use crate::layout::public_share_length;
 use crate::pairs::server_sums;
 use crate::reports::server_sum;
 use calls::Reply;
 use expander::Choice;
 use expander::Expander;
+use nodes::public_share_length;
 ghost use mathlib.Core.Path.{_≡_};
 ghost use mathlib.Core.Bool.{true};
 ghost use mathlib.Core.List.{[]};

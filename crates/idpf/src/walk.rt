@@ -1,11 +1,11 @@
 // A server's walk: from the root seed down the levels of one public share, which is read in place.
-use crate::node::Correction;
-use crate::node::Node;
-use crate::node::child;
-use crate::node::corrected;
-use crate::node::draw;
 use crate::reader::read_level;
 use expander::Expander;
+use nodes::Correction;
+use nodes::Node;
+use nodes::child;
+use nodes::corrected;
+use nodes::draw;
 ghost use mathlib.Core.Path.{_≡_};
 ghost use mathlib.Core.Bool.{cond};
 ghost use Prim.Native.Nat.{_<_};
@@ -14,7 +14,7 @@ ghost use Rattle.point.specs.Instance.{scheme};
 ghost use Rattle.point.specs.Correction.{correctedChild};
 ghost use Rattle.point.specs.Share.{descend, correctedPayload, shareBelow, node, share};
 ghost use Rattle.point.specs.PublicShare.{readCorrection};
-ghost use Rattle.idpf.specs.Layout.{nodeOf, correctionOf};
+ghost use Rattle.nodes.specs.Layout.{nodeOf, correctionOf};
 ghost use Rattle.idpf.specs.Reports.{packedBit};
 
 // The bit correction of a side: left for false, right for true.

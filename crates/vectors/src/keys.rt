@@ -153,7 +153,7 @@ fn key(expander: u64, n: u64, string: &[u8], out: &[u8], end: usize) {
 // The key of a packed string of n bits, and both servers' shares.
 fn report(expander: u64, n: u64, string: &[u8]) {
     let mut out = [0u8; 6208];
-    let reply = idpf::make_key(n, expander, string, &SEED0, &SEED1, &mut out);
+    let reply = keymaker::make_key(n, expander, string, &SEED0, &SEED1, &mut out);
     io::write_all(OUT, b"key ");
     number(expander);
     number(n);

@@ -50,7 +50,7 @@ fn put_key(
 ) {
     let packed = [string];
     let mut key = [0u8; 49];
-    idpf::make_key(2, expander, &packed, &seed0, &seed1, &mut key);
+    keymaker::make_key(2, expander, &packed, &seed0, &seed1, &mut key);
     copy(&key, shares, at);
 }
 
@@ -142,9 +142,9 @@ pub(crate) fn one_bit() {
     let mut one = [0u8; 16];
     write_le8(&mut one, 0, 1);
     let mut share = [0u8; 25];
-    idpf::make_key(1, 2, &string, &zero, &zero, &mut share);
+    keymaker::make_key(1, 2, &string, &zero, &zero, &mut share);
     one_report(b"H", &share, zero, zero);
-    idpf::make_key(1, 2, &string, &zero, &one, &mut share);
+    keymaker::make_key(1, 2, &string, &zero, &one, &mut share);
     write_le8(&mut share, 17, 18446744069414584320);
     one_report(b"I p - 1", &share, zero, one);
     write_le8(&mut share, 17, 18446744069414584321);
@@ -163,7 +163,7 @@ pub(crate) fn bounds(label: &[u8], n: u64, t: u64) {
 // A search of one string of 256 bits, with t = 1: its number, the lengths of its record and list, and the list.
 pub(crate) fn longest(expander: u64, string: &[u8], seed0: &[u8], seed1: &[u8]) {
     let mut share = [0u8; 6208];
-    idpf::make_key(256, expander, string, seed0, seed1, &mut share);
+    keymaker::make_key(256, expander, string, seed0, seed1, &mut share);
     let mut record = [0u8; 14080];
     let mut list = [0u8; 32];
     let found = search::search(

@@ -1,13 +1,13 @@
 -- `exam_text::reports::write_key` meets its contract: what the key maker writes into the part that it is lent is put at its place. Assumes nothing.
 use Rattle.point.specs.PublicShare.{publicShareLength}
-use Rattle.idpf.specs.Key.{keyOutcome}
+use Rattle.keymaker.specs.Key.{keyOutcome}
 use Rattle.exam_text.proofs.PiecesPut.{part-put}
 use borrow.Author.Needs.{needs}
 use Rattle.exam_text.proofs.reports.write_key.Statement.{statement}
 use Rattle.exam_text.proofs.reports.write_key.Tie as tie
 
-key-length-requires : tie.Need-key-length-requires
-key-length-requires c κs = search needs
+public-share-length-requires : tie.Need-public-share-length-requires
+public-share-length-requires c κs = search needs
 
 add-end : tie.Need-add-end
 add-end c = search needs
@@ -33,15 +33,15 @@ returns c =
     let k = m .before .before in
     let s = k .before .before .before .before .before in
     let a = s .args in
-    part-put (a .shares .now) (a .at) (publicShareLength (a .n)) (k .key-length .result)
+    part-put (a .shares .now) (a .at) (publicShareLength (a .n)) (k .public-share-length .result)
     (λ room. keyOutcome (a .n) (a .expander) (a .string .now) (a .seed0 .now) (a .seed1 .now) room .written)
-    (m .make-key .last .1 .1 .1 .1 .1 .0) (k .key-length .ensures) (s .pre .0) (s .pre .1) (m .make-key .ensures .1 .1)
+    (m .make-key .last .1 .1 .1 .1 .1 .0) (k .public-share-length .ensures) (s .pre .0) (s .pre .1) (m .make-key .ensures .1 .1)
 
 pub write-key-spec : {M : Type 1} → statement M
 write-key-spec =
     tie.close
     (tie.spec
-    key-length-requires
+    public-share-length-requires
     add-end
     sub-make-key
     part-make-key-start

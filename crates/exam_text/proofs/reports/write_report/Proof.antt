@@ -6,7 +6,7 @@ use lib.ListN.{length, take}
 use lib.Seq.{length-take-le}
 use Rattle.bits.specs.Places.{putAt}
 use Rattle.point.specs.PublicShare.{publicShareLength}
-use Rattle.idpf.specs.Key.{keyOutcome}
+use Rattle.keymaker.specs.Key.{keyOutcome}
 use Rattle.exam_text.specs.Sheet.{Line}
 use Rattle.exam_text.proofs.LineKeys.{Sound, keyOf, key-size, lineFrom, seed0-read, seed1-read, line-sound, key-read}
 use borrow.Author.Needs.{needs}
@@ -15,20 +15,20 @@ use Rattle.exam_text.proofs.reports.write_report.Tie as tie
 
 -- ---- what was read
 
-abbrev start : tie.After-key-length → tie.Start
+abbrev start : tie.After-public-share-length → tie.Start
 start k = k .before .before .before .before .before .before .before .before .before .before .before .before .before .before .before .before .before .before .before .before .before
 
-abbrev line : tie.After-key-length → Line
+abbrev line : tie.After-public-share-length → Line
 line k = lineFrom (start k .args .text .now) (start k .args .at) (start k .args .n)
 
 -- both seeds as they were read
-abbrev seed0 : tie.After-key-length → tie.After-read-seed
+abbrev seed0 : tie.After-public-share-length → tie.After-read-seed
 seed0 k = k .before .before .before .before .before .before .before .before .before .before .before .before .before .before .before .before
 
-abbrev seed1 : tie.After-key-length → tie.After-read-seed2
+abbrev seed1 : tie.After-public-share-length → tie.After-read-seed2
 seed1 k = k .before .before .before .before .before .before .before .before .before .before .before .before .before .before .before
 
-sound : (k : tie.After-key-length) → Sound (start k .args .n) (line k)
+sound : (k : tie.After-public-share-length) → Sound (start k .args .n) (line k)
 sound k =
     let s = start k in
     let a = s .args in
@@ -37,7 +37,7 @@ sound k =
     line-sound (a .text .now) (a .at) (a .n) _ _ (first .0) (second .0) (omega (arith, s .pre .1 .0 .0)) (first .1) (second .1)
 
 -- the key of what was read is that of the line
-made : (k : tie.After-key-length)
+made : (k : tie.After-public-share-length)
     → keyOutcome (start k .args .n) (start k .args .expander) (take (k .before .before .before .before .before .before .before .before .before .before .before .before .before .packed-length .result) (k .before .before .before .before .before .before .before .before .before .before .before .before .before .before .read-string .result)) (seed0 k .read-seed .result)
     (seed1 k .read-seed2 .result) (publicShareLength (start k .args .n)) .written
     ≡ keyOf (start k .args .n) (start k .args .expander) (line k)
@@ -103,17 +103,17 @@ slice-aggregate-write-key-2 c = search needs
 slice-aggregate-write-key-3 : tie.Need-slice-aggregate-write-key-3
 slice-aggregate-write-key-3 c = search needs
 
-key-length-requires : tie.Need-key-length-requires
-key-length-requires c κs = search needs
+public-share-length-requires : tie.Need-public-share-length-requires
+public-share-length-requires c κs = search needs
 
 mul-write-key : tie.Need-mul-write-key
-mul-write-key c = rw (c .key-length .ensures) (omega (arith, start c .pre .1 .1 .2, start c .good .1 .1 .1 .1 .1 .1 .1 .0 .0))
+mul-write-key c = rw (c .public-share-length .ensures) (omega (arith, start c .pre .1 .1 .2, start c .good .1 .1 .1 .1 .1 .1 .1 .0 .0))
 
 write-key-requires : tie.Need-write-key-requires
 write-key-requires c κs =
     let s = start c in
     let a = s .args in
-    (rw (c .key-length .ensures) (s .pre .1 .1 .2), ap length (made c) ∙ key-size (a .n) (a .expander) (s .pre .0 .0) (s .pre .0 .1) (s .pre .0 .2) (line c) (sound c))
+    (rw (c .public-share-length .ensures) (s .pre .1 .1 .2), ap length (made c) ∙ key-size (a .n) (a .expander) (s .pre .0 .0) (s .pre .0 .1) (s .pre .0 .2) (line c) (sound c))
 
 same-length : tie.Need-same-length
 same-length c = search needs
@@ -133,7 +133,7 @@ returns c =
       c .before .before .before .before .before .before .before .before .before .before .before .before .before .before .write16 .ensures ∙ ap (putAt (a .seeds0 .now) (16 * a .i)) first,
       (
         c .before .before .before .before .before .before .before .before .before .before .write162 .ensures ∙ ap (putAt (a .seeds1 .now) (16 * a .i)) second,
-        c .before .before .write-key .ensures ∙ ap₂ (putAt (a .shares .now)) (ap (λ (w : ℕ). w * a .i) (k .key-length .ensures)) (made k),
+        c .before .before .write-key .ensures ∙ ap₂ (putAt (a .shares .now)) (ap (λ (w : ℕ). w * a .i) (k .public-share-length .ensures)) (made k),
       ),
     )
 
@@ -157,7 +157,7 @@ write-report-spec =
     slice-aggregate-write-key
     slice-aggregate-write-key-2
     slice-aggregate-write-key-3
-    key-length-requires
+    public-share-length-requires
     mul-write-key
     write-key-requires
     same-length

@@ -20,10 +20,10 @@ use Rattle.exam_text.proofs.solving.print_answer.Tie as tie
 
 -- ---- the sheet, and its search
 
-abbrev start : tie.After-key-length → tie.Start
+abbrev start : tie.After-public-share-length → tie.Start
 start k = k .before .before .before .before .before .before .before .before .before .before .before .before .before .before .before .before .before .before
 
-abbrev written : tie.After-key-length → tie.After-write-reports
+abbrev written : tie.After-public-share-length → tie.After-write-reports
 written k = k .before .before .before .before .before .before .before
 
 ready : (s : tie.Start) → let a = s .args in Ready (a .text .now) (a .n) (a .t) (a .expander) (a .count) (a .at)
@@ -42,17 +42,17 @@ ready s = record {
 }
 
 -- the public shares that both servers are lent
-abbrev lentShares : tie.After-key-length → List ℕ
-lentShares k = take (k .key-length .result * start k .args .count) (written k .write-reports .last .1 .1 .1 .1 .1 .1 .1 .0)
+abbrev lentShares : tie.After-public-share-length → List ℕ
+lentShares k = take (k .public-share-length .result * start k .args .count) (written k .write-reports .last .1 .1 .1 .1 .1 .1 .1 .0)
 
-abbrev asked : tie.After-key-length → Lent
+abbrev asked : tie.After-public-share-length → Lent
 asked k =
     let a = start k .args in
     let w = written k .write-reports in
     lent (a .n) (a .t) (a .expander) (take (16 * a .count) (w .last .1 .1 .1 .1 .1 .0)) (lentShares k) (take (16 * a .count) (w .last .1 .1 .1 .1 .1 .1 .0)) (lentShares k)
     (a .area .now) (a .list .now)
 
-honest : (k : tie.After-key-length) → let a = start k .args in Honest (asked k) (stringsOf (a .n) (a .count) (drop (a .at) (a .text .now)))
+honest : (k : tie.After-public-share-length) → let a = start k .args in Honest (asked k) (stringsOf (a .n) (a .count) (drop (a .at) (a .text .now)))
 honest k =
     let a = start k .args in
     let w = written k .write-reports in
@@ -60,23 +60,23 @@ honest k =
     λ size.
     let shares = take (size * a .count) (w .last .1 .1 .1 .1 .1 .1 .1 .0) in
     lent (a .n) (a .t) (a .expander) (take (16 * a .count) (w .last .1 .1 .1 .1 .1 .0)) shares (take (16 * a .count) (w .last .1 .1 .1 .1 .1 .1 .0)) shares (a .area .now) (a .list .now) in
-    subst (λ (size : ℕ). Honest (of size) (stringsOf (a .n) (a .count) (drop (a .at) (a .text .now)))) (sym (k .key-length .ensures))
+    subst (λ (size : ℕ). Honest (of size) (stringsOf (a .n) (a .count) (drop (a .at) (a .text .now)))) (sym (k .public-share-length .ensures))
     (w .ensures (a .t) (a .area .now) (a .list .now))
 
-accepted : (k : tie.After-key-length) → Accepted (asked k)
+accepted : (k : tie.After-public-share-length) → Accepted (asked k)
 accepted k =
     let s = start k in
     let a = s .args in
     sheet-accepted (a .text .now) (a .n) (a .t) (a .expander) (a .count) (a .at) (ready s) (asked k) (honest k) refl refl refl (s .pre .1 .1 .3) (s .pre .1 .1 .4)
 
-answer-is : (k : tie.After-key-length)
+answer-is : (k : tie.After-public-share-length)
     → printed (start k .args .n) (recordRead (asked k)) (listRead (asked k)) ≡ answerText (sheetOf (start k .args .text .now))
 answer-is k =
     let s = start k in
     let a = s .args in
     sheet-printed (a .text .now) (a .n) (a .t) (a .expander) (a .count) (a .at) (ready s) (asked k) (honest k) refl refl refl (s .pre .1 .1 .3) (s .pre .1 .1 .4)
 
-rounds : (k : tie.After-key-length) → Rounds (start k .args .n) (recordRead (asked k))
+rounds : (k : tie.After-public-share-length) → Rounds (start k .args .n) (recordRead (asked k))
 rounds k =
     let s = start k in
     let a = s .args in
@@ -85,8 +85,8 @@ rounds k =
 fits : (s : tie.Start) → length (answerText (sheetOf (s .args .text .now))) ≤ 43232
 fits s = let a = s .args in sheet-fits (a .text .now) (a .n) (a .t) (a .expander) (a .count) (a .at) (ready s)
 
-room : (k : tie.After-key-length) → k .key-length .result * start k .args .count ≤ 24832
-room k = let s = start k in shares-room (s .args .n) (s .args .count) (k .key-length .result) (k .key-length .ensures) (s .pre .0 .2) (s .pre .0 .6)
+room : (k : tie.After-public-share-length) → k .public-share-length .result * start k .args .count ≤ 24832
+room k = let s = start k in shares-room (s .args .n) (s .args .count) (k .public-share-length .result) (k .public-share-length .ensures) (s .pre .0 .2) (s .pre .0 .6)
 
 -- ---- the needs
 
@@ -105,8 +105,8 @@ write-reports-requires c κs =
 mul-seeds-end : tie.Need-mul-seeds-end
 mul-seeds-end c = search needs
 
-key-length-requires : tie.Need-key-length-requires
-key-length-requires c κs = search needs
+public-share-length-requires : tie.Need-public-share-length-requires
+public-share-length-requires c κs = search needs
 
 mul-shares-end : tie.Need-mul-shares-end
 mul-shares-end c = omega (arith, room c)
@@ -170,7 +170,7 @@ print-answer-spec =
     (tie.spec
     write-reports-requires
     mul-seeds-end
-    key-length-requires
+    public-share-length-requires
     mul-shares-end
     slice-reshare-prefix-search-printed
     slice-aggregate-search-printed

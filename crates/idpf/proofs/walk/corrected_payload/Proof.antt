@@ -7,7 +7,7 @@ use Rattle.bits.specs.Numbers.{fromLittle}
 use Rattle.group.specs.Modular.{p}
 use Rattle.point.specs.Node.{payloadOf}
 use Rattle.point.specs.Instance.{fieldScheme, scheme}
-use Rattle.idpf.specs.Layout.{nodeOf}
+use Rattle.nodes.specs.Layout.{nodeOf}
 use Rattle.idpf.proofs.Descent.{payload-on, payload-off}
 use borrow.Author.Needs.{needs}
 use Rattle.idpf.proofs.walk.corrected_payload.Statement.{statement}

@@ -1,5 +1,5 @@
 -- `idpf::walk::descend` meets its contract. Assumes nothing.
-use Rattle.idpf.specs.Layout.{nodeOf, correctionOf}
+use Rattle.nodes.specs.Layout.{nodeOf, correctionOf}
 use Rattle.idpf.proofs.Descent.{descend-block}
 use borrow.Author.Needs.{needs}
 use Rattle.idpf.proofs.walk.descend.Statement.{statement}

@@ -1,5 +1,5 @@
 -- `idpf::walk::share_below` meets its contract. Assumes nothing.
-use Rattle.idpf.specs.Layout.{nodeOf, correctionOf}
+use Rattle.nodes.specs.Layout.{nodeOf, correctionOf}
 use Rattle.idpf.proofs.Descent.{below-negated, below-plain}
 use borrow.Author.Needs.{needs}
 use Rattle.idpf.proofs.walk.share_below.Statement.{statement}

@@ -38,11 +38,11 @@ use denote.Triple.Walked.{says, Stays, stay-none, walkOf, goes-none, Walks, ends
 use denote.Exit.{yes}
 use denote.Triple.Clauses.{ensured, lasts}
 use Rattle.point.specs.PublicShare.{readCorrection}
-use Rattle.idpf.specs.Layout.{correctionOf}
-use Rattle.idpf.specs.declared.node.Correction.{Correction}
+use Rattle.nodes.specs.Layout.{correctionOf}
+use Rattle.nodes.specs.declared.Correction.{Correction}
 use Rattle.idpf.specs.declared.reader.ShareReader.{ShareReader}
-use Rattle.idpf.proofs.node.Correction as C
-use Rattle.idpf.proofs.node.Correction.Laws as C′
+use Rattle.nodes.proofs.Correction as C
+use Rattle.nodes.proofs.Correction.Laws as C′
 use Rattle.idpf.proofs.reader.ShareReader.Laws as T′
 use Rattle.idpf.proofs.reader.Held.{Reader, shape, laws, parts, vals, tells, Held, twice, typed}
 use Rattle.idpf.proofs.reader.read_correction as read

@@ -1,0 +1,6 @@
+pub mod KeyLevel
+pub mod KeyControl
+pub mod KeyWriting
+pub mod KeyMaker
+pub mod KeyCauses
+pub mod KeyTheorems

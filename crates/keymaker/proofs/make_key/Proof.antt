@@ -1,0 +1,109 @@
+-- `keymaker::make_key` meets its contract. A refusal leaves the space as it was; else no cause applies, and the public share is written. Assumes nothing.
+use mathlib.Core.Path.{refl, sym, ap, ap₂, _∙_}
+use mathlib.Core.Bool.{true≢false}
+use mathlib.Core.List.{List}
+use Prim.Native.Nat.{ℕ}
+use native.Mathlib.Omega.{arith}
+use lib.ListN.{length}
+use Rattle.bits.specs.Numbers.{Bytes}
+use Rattle.bits.specs.Places.{overlay}
+use Rattle.bits.proofs.Places.{window-bytes, window-whole, overlay-nil}
+use Rattle.expander.proofs.Chosen.{unknown}
+use Rattle.keymaker.specs.Key.{keyBytes}
+use Rattle.keymaker.proofs.KeyCauses.{Ready, nothing-written, ready, key-accepted}
+use Rattle.keymaker.proofs.KeyMaker.{key-length}
+use borrow.Author.Needs.{needs}
+use Rattle.keymaker.proofs.make_key.Statement.{statement}
+use Rattle.keymaker.proofs.make_key.Tie as tie
+
+-- no cause applies
+clear : (c : tie.Else1) → let a = c .before .before .before .before .before .before .args in Ready (a .n) (a .expander) (a .string .now) (a .seed0 .now) (a .seed1 .now) (length (a .out .now))
+clear c =
+    let a = c .before .before .before .before .before .before .args in
+    ready (a .n) (a .expander) (a .string .now) (a .seed0 .now) (a .seed1 .now) (length (a .out .now)) (sym (c .before .key-cause .ensures) ∙ c .if1 .left)
+
+key-cause-requires : tie.Need-key-cause-requires
+key-cause-requires c κs = search needs
+
+returns : tie.Need-returns
+returns c =
+    let a = c .before .before .before .before .before .before .args in
+    let k = c .before .key-cause .ensures in
+    let w = nothing-written (a .n) (a .expander) (a .string .now) (a .seed0 .now) (a .seed1 .now) (length (a .out .now)) (λ q. c .if1 .taken (k ∙ q)) in
+    (k, (sym (ap length w), sym (ap (λ (v : List ℕ). overlay v (a .out .now)) w ∙ overlay-nil (a .out .now))))
+
+choose-requires : tie.Need-choose-requires
+choose-requires c κs = search needs
+
+enum-known-e : tie.Need-enum-known-e
+enum-known-e c = search needs
+
+cast-levels : tie.Need-cast-levels
+cast-levels c =
+    let r = clear (c .before .before .before .before) in
+    omega (arith, r .few)
+
+read16-requires : tie.Need-read16-requires
+read16-requires c κs = search needs
+
+read16-requires-2 : tie.Need-read16-requires-2
+read16-requires-2 c κs = search needs
+
+write-key-requires : tie.Need-write-key-requires
+write-key-requires c κs =
+    let a = c .before .before .before .before .before .before .before .before .before .before .before .before .before .args in
+    let r = clear (c .before .before .before .before .before .before .before) in (
+      r .fits,
+      rw (c .before .before .read16 .ensures) (window-bytes 16 0 (a .seed0 .now) (λ i. c .before .before .before .before .before .before .before .before .before .before .before .shared-slice-known2 .given i .fits)),
+      rw (c .before .read162 .ensures) (window-bytes 16 0 (a .seed1 .now) (λ i. c .before .before .before .before .before .before .before .before .before .before .shared-slice-known3 .given i .fits)),
+    )
+
+public-share-length-requires : tie.Need-public-share-length-requires
+public-share-length-requires c κs = search needs
+
+enum-told : tie.Need-enum-told
+enum-told c = search needs
+
+same-length : tie.Need-same-length
+same-length c = search needs
+
+returns-2 : tie.Need-returns-2
+returns-2 c =
+    let a = c .before .before .before .before .before .before .before .before .before .before .before .before .before .before .before .before .before .args in
+    let r = clear (c .before .before .before .before .before .before .before .before .before .before .before) in
+    let x = c .before .before .before .before .before .before .before .before .e .given .0 .0 in
+    let b0 : Bytes 16 (a .seed0 .now) = record { size = r .seed0-length; byte = λ i. c .before .before .before .before .before .before .before .before .before .before .before .before .before .before .before .shared-slice-known2 .given i .fits } in
+    let b1 : Bytes 16 (a .seed1 .now) = record { size = r .seed1-length; byte = λ i. c .before .before .before .before .before .before .before .before .before .before .before .before .before .before .shared-slice-known3 .given i .fits } in
+    rw (key-accepted (a .n) (a .expander) (a .string .now) (a .seed0 .now) (a .seed1 .now) (length (a .out .now)) x (sym (c .before .before .before .before .before .before .before .before .before .before .choose .ensures) ∙ c .before .before .before .before .before .before .before .before .e .given .1) r) (
+      refl,
+      (
+        c .public-share-length .ensures ∙ sym (key-length x (a .n) (a .string .now) (a .seed0 .now) (a .seed1 .now) b0 b1),
+        c .before .before .before .write-key .ensures
+            ∙ ap₂ (λ (s t : List ℕ). overlay (keyBytes (a .n) (a .string .now) s t x) (a .out .now))
+            (c .before .before .before .before .before .before .read16 .ensures ∙ window-whole 16 (a .seed0 .now) (r .seed0-length)) (c .before .before .before .before .before .read162 .ensures ∙ window-whole 16 (a .seed1 .now) (r .seed1-length)),
+      ),
+    )
+
+returns-3 : tie.Need-returns-3
+returns-3 c =
+    let a = c .before .before .before .before .before .before .before .before .before .args in
+    let r = clear (c .before .before .before) in
+    absurd (true≢false (sym (r .expander) ∙ unknown (a .expander) (sym (c .before .before .choose .ensures) ∙ c .enum-told .given .1)))
+
+pub make-key-spec : {M : Type 1} → statement M
+make-key-spec =
+    tie.close
+    (tie.spec
+    key-cause-requires
+    returns
+    choose-requires
+    enum-known-e
+    cast-levels
+    read16-requires
+    read16-requires-2
+    write-key-requires
+    public-share-length-requires
+    enum-told
+    same-length
+    returns-2
+    returns-3)

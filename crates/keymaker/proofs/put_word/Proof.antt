@@ -1,0 +1,40 @@
+-- `keymaker::put_word` meets its contract. Assumes nothing.
+use mathlib.Core.Path.{_≡_, sym, ap, _∙_}
+use mathlib.Core.List.{List}
+use Prim.Native.Nat.{ℕ, _+_}
+use native.Mathlib.Omega.{arith}
+use lib.ListN.{length, length-map}
+use Rattle.bits.specs.Numbers.{little}
+use Rattle.bits.specs.Places.{putAt}
+use Rattle.bits.proofs.Endian.{little-length}
+use Rattle.bits.proofs.Places.{putAt-more}
+use Rattle.point.specs.PublicShare.{levelBytes}
+use borrow.Author.Needs.{needs}
+use Rattle.keymaker.proofs.put_word.Statement.{statement}
+use Rattle.keymaker.proofs.put_word.Tie as tie
+
+add-payload-at : tie.Need-add-payload-at
+add-payload-at c = search needs
+
+write16-requires : tie.Need-write16-requires
+write16-requires c κs = search needs
+
+write-le8-requires : tie.Need-write-le8-requires
+write-le8-requires c κs = search needs
+
+same-length : tie.Need-same-length
+same-length c = search needs
+
+returns : tie.Need-returns
+unfolding levelBytes
+returns c =
+    let a = c .before .before .before .before .before .before .before .before .before .before .args in
+    let size : length (a .word .seed) ≡ 16 = simp length-map at (c .before .before .before .before .before .before .before .before .before .before .good .1 .1 .0 .1 .1 .0 .1 .0 .1) in
+    let number = little 8 (a .word .payload) in
+    c .before .before .write-le8 .ensures ∙ ap (λ (l : List ℕ). putAt l (a .at + 16) number) (c .before .before .before .before .before .before .write16 .ensures)
+    ∙ ap (λ (z : ℕ). putAt (putAt (a .out .now) (a .at) (a .word .seed)) (a .at + z) number) (sym size)
+    ∙ putAt-more (a .out .now) (a .at) (a .word .seed) number (omega (arith, little-length 8 (a .word .payload), c .before .before .before .before .before .before .before .before .before .before .pre))
+
+pub put-word-spec : {M : Type 1} → statement M
+put-word-spec =
+    tie.close (tie.spec add-payload-at write16-requires write-le8-requires same-length returns)

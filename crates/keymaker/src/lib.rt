@@ -1,0 +1,184 @@
+// The key maker: the public share of a string, from its two root seeds.
+mod level;
+
+use crate::level::Nodes;
+use crate::level::next_level;
+use bits::numbers::read16;
+use bits::numbers::write_le8;
+use bits::numbers::write16;
+use bits::packing::bit_at;
+use bits::packing::packed_length;
+use bits::packing::spare_zero;
+use calls::Reply;
+use expander::Choice;
+use expander::Expander;
+use nodes::Correction;
+use nodes::Node;
+use nodes::level_start;
+use nodes::public_share_length;
+ghost use mathlib.Core.Path.{_≡_};
+ghost use mathlib.Core.Bool.{not, _||_};
+ghost use mathlib.Core.List.{[], _∷_};
+ghost use Prim.Native.Nat.{_+_, _*_, _/_, _%_, _^_, _≤_, _<_};
+ghost use lib.ListN.{length, getD, set};
+ghost use lib.Dec.{eqb};
+ghost use Rattle.bits.specs.Lists.{digit};
+ghost use Rattle.bits.specs.Numbers.{Bytes};
+ghost use Rattle.bits.specs.Packing.{packedLength};
+ghost use Rattle.bits.specs.Places.{putAt, overlay};
+ghost use Rattle.calls.specs.Causes.{cause, judged};
+ghost use Rattle.point.specs.PublicShare.{levelBytes, publicShareLength};
+ghost use Rattle.nodes.specs.Layout.{correctionOf};
+ghost use Rattle.keymaker.specs.Key.{keyBytes, keyOutcome};
+
+// A bit as a number.
+fn bit(b: bool) -> u64
+    ensures { λ r. ⌜ (r ≡ digit b) × (r ≤ 1) ⌝ }
+{
+    if b { 1 } else { 0 }
+}
+
+// The weight of the first control bit of level k within its byte.
+fn weight(k: u16) -> u64
+    ensures { λ r. ⌜ (r ≡ 2 ^ (2 * (k % 4))) × (0 < r) × (r ≤ 64) ⌝ }
+{
+    1 << (2 * (k % 4))
+}
+
+// A control byte with the bits of level k put above what stands below them.
+fn control_byte(old: u8, k: u16, left: bool, right: bool) -> u8
+    ensures { λ r. ⌜ r ≡ old % 2 ^ (2 * (k % 4)) + (digit left + 2 * digit right) * 2 ^ (2 * (k % 4)) ⌝ }
+{
+    let w = weight(k);
+    let both = bit(left) + 2 * bit(right);
+    ((old as u64) % w + both * w) as u8
+}
+
+// The control bits of level k into their byte.
+fn put_control(out: &mut [u8], k: u16, left: bool, right: bool)
+    requires { ⌜ k / 4 < length (now out) ⌝ }
+    ensures { λ _. ⌜ now (out .exit) ≡ set (now (out .entry)) (k / 4) (getD (now (out .entry)) (k / 4) 0 % 2 ^ (2 * (k % 4)) + (digit left + 2 * digit right) * 2 ^ (2 * (k % 4))) ⌝ }
+{
+    let j = (k / 4) as usize;
+    out[j] = control_byte(out[j], k, left, right);
+}
+
+// Seed and payload correction of a level into the places from `at` on.
+fn put_word(out: &mut [u8], at: usize, word: Correction)
+    requires { ⌜ at + 24 ≤ length (now out) ⌝ }
+    ensures { λ _. ⌜ now (out .exit) ≡ putAt (now (out .entry)) at (levelBytes (correctionOf word)) ⌝ }
+{
+    let payload_at = at + 16;
+    let seed = word.seed;
+    write16(out, at, seed);
+    write_le8(out, payload_at, word.payload);
+}
+
+// The public share of the string into the beginning of `out`.
+fn write_key(e: Expander, n: u16, string: &[u8], seed0: [u8; 16], seed1: [u8; 16], out: &mut [u8])
+    requires { ⌜ (publicShareLength n ≤ length (now out)) × Bytes 16 seed0 × Bytes 16 seed1 ⌝ }
+    ensures { λ _. ⌜ now (out .exit) ≡ overlay (keyBytes n (now (string .entry)) seed0 seed1 e) (now (out .entry)) ⌝ }
+{
+    let mut nodes = Nodes {
+        node0: Node {
+            seed: seed0,
+            bit: false,
+        },
+        node1: Node {
+            seed: seed1,
+            bit: true,
+        },
+    };
+    let mut k: u16 = 0;
+    while k < n {
+        let level = next_level(e, bit_at(string, k as usize), nodes);
+        let word = level.word;
+        put_control(out, k, word.left, word.right);
+        put_word(out, level_start(n, k), word);
+        let next = level.next;
+        nodes = next;
+        k += 1;
+    }
+}
+
+// Whether the string or a seed has the wrong length.
+fn wrong_lengths(n: u16, string: &[u8], seed0: &[u8], seed1: &[u8]) -> bool
+    ensures { λ r. ⌜ r ≡ (not (eqb (length (now (string .entry))) (packedLength n)) || (not (eqb (length (now (seed0 .entry))) 16) || not (eqb (length (now (seed1 .entry))) 16))) ⌝ }
+{
+    if string.len() != packed_length(n as usize) {
+        return true;
+    }
+    if seed0.len() != 16 {
+        return true;
+    }
+    seed1.len() != 16
+}
+
+// The number of the first cause that applies, of those after 1.
+fn first_cause(unknown: bool, lengths: bool, spare: bool, room: bool) -> u64
+    ensures { λ r. ⌜ r ≡ judged (cause 3 unknown ∷ cause 4 lengths ∷ cause 7 spare ∷ cause 11 room ∷ []) [] .number ⌝ }
+{
+    if unknown {
+        return 3;
+    }
+    if lengths {
+        return 4;
+    }
+    if spare {
+        return 7;
+    }
+    if room {
+        return 11;
+    }
+    0
+}
+
+// The number that `make_key` returns.
+fn key_cause(n: u64, expander: u64, string: &[u8], seed0: &[u8], seed1: &[u8], room: usize) -> u64
+    ensures { λ r. ⌜ r ≡ keyOutcome n expander (now (string .entry)) (now (seed0 .entry)) (now (seed1 .entry)) room .number ⌝ }
+{
+    if n < 1 {
+        return 1;
+    }
+    if 256 < n {
+        return 1;
+    }
+    let levels = n as u16;
+    let unknown = !expander::is_expander(expander);
+    let lengths = wrong_lengths(levels, string, seed0, seed1);
+    let spare = !spare_zero(string, levels as usize);
+    first_cause(unknown, lengths, spare, room < public_share_length(levels))
+}
+
+// Writes the public share of a string of n bits; refuses with 1, 3, 4, 7 or 11.
+pub fn make_key(
+    n: u64,
+    expander: u64,
+    string: &[u8],
+    seed0: &[u8],
+    seed1: &[u8],
+    out: &mut [u8],
+) -> Reply
+    ensures number { λ r. ⌜ r .number ≡ keyOutcome n expander (now (string .entry)) (now (seed0 .entry)) (now (seed1 .entry)) (length (now (out .entry))) .number ⌝ }
+    ensures written { λ r. ⌜ r .length ≡ length (keyOutcome n expander (now (string .entry)) (now (seed0 .entry)) (now (seed1 .entry)) (length (now (out .entry))) .written) ⌝ }
+    ensures space { λ r. ⌜ now (out .exit) ≡ overlay (keyOutcome n expander (now (string .entry)) (now (seed0 .entry)) (now (seed1 .entry)) (length (now (out .entry))) .written) (now (out .entry)) ⌝ }
+{
+    let number = key_cause(n, expander, string, seed0, seed1, out.len());
+    if number != 0 {
+        return Reply { number, length: 0 };
+    }
+    match expander::choose(expander) {
+        Choice::Known(e) => {
+            let levels = n as u16;
+            write_key(e, levels, string, read16(seed0, 0), read16(seed1, 0), out);
+            Reply {
+                number: 0,
+                length: public_share_length(levels) as u64,
+            }
+        }
+        Choice::Unknown => Reply {
+            number: 3,
+            length: 0,
+        },
+    }
+}

@@ -1,0 +1,29 @@
+-- `nodes::draw` meets its contract. Assumes nothing.
+use mathlib.Core.Path.{ap, _∙_}
+use Prim.Native.Nat.{ℕ, _%_}
+use Rattle.bits.specs.Numbers.{fromLittle}
+use Rattle.bits.proofs.Places.{window-inside}
+use Rattle.group.specs.Modular.{p}
+use native.Mathlib.Omega.{arith}
+use borrow.Author.Needs.{needs}
+use Rattle.nodes.proofs.draw.Statement.{statement}
+use Rattle.nodes.proofs.draw.Tie as tie
+
+slice-aggregate-read-le8 : tie.Need-slice-aggregate-read-le8
+slice-aggregate-read-le8 c = search needs
+
+read-le8-requires : tie.Need-read-le8-requires
+read-le8-requires c κs = search needs
+
+reduce-requires : tie.Need-reduce-requires
+reduce-requires c κs = search needs
+
+returns : tie.Need-returns
+returns c =
+    let s = c .before .before .before in (
+      c .reduce .ensures .0 ∙ ap (λ (x : ℕ). x % p) (c .before .read-le8 .ensures ∙ ap fromLittle (window-inside 8 0 (s .args .t1) (omega (arith, s .good .0 .1 .0 .1)))),
+      c .reduce .ensures .1,
+    )
+
+pub draw-spec : {M : Type 1} → statement M
+draw-spec = tie.close (tie.spec slice-aggregate-read-le8 read-le8-requires reduce-requires returns)
