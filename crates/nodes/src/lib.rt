@@ -1,4 +1,4 @@
-// Nodes of the tree and correction words, by value, the steps that the key maker and the servers share, and the layout of a public share.
+// Nodes of the tree and correction words, by value, the steps that the key maker and the servers share, and where the levels of a public share stand.
 use expander::Expander;
 ghost use mathlib.Core.Path.{_≡_};
 ghost use Prim.Native.Nat.{_%_, _<_};
