@@ -1,6 +1,3 @@
-pub mod Places
-pub mod Endian
-pub mod Straight
 pub mod Packed
 pub mod Append
 pub mod Spare

@@ -12,11 +12,11 @@ use borrow.Author.Tests.{eqb-true, eqb-false, leb-true, leb-false}
 use lib.ListN.{length, getD, take, drop, length-append, length-take, length-drop, List·getD-append, List·getD-eq-default}
 use lib.Seq.{length-take-le, getD-take, getD-drop, getD-append-add, drop-nil, ext-getD}
 use lib.Dec.{eqb, leb}
-use Rattle.bits.specs.Lists.{digit}
+use Rattle.numbers.specs.Lists.{digit}
 use Rattle.bits.specs.Strings.{Bits}
-use Rattle.bits.specs.Numbers.{Bytes}
+use Rattle.numbers.specs.Numbers.{Bytes}
 use Rattle.bits.specs.Packing.{packedLength, value, packIn, pack, digits, bitsOf, unpack, isZero, spareZero}
-use Rattle.bits.proofs.Endian.{bytes-head, bytes-tail}
+use Rattle.numbers.proofs.Endian.{bytes-head, bytes-tail}
 
 -- ---- some bits as a number
 

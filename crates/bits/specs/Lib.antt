@@ -1,5 +1,2 @@
-pub mod Lists
 pub mod Strings
-pub mod Numbers
 pub mod Packing
-pub mod Places

@@ -7,7 +7,7 @@ use mathlib.Core.Bool.{Bool, true, false, cond}
 use mathlib.Core.List.{List, [], _∷_}
 use mathlib.Core.Logic.{inl, inr}
 use lib.Dec.{T}
-use Rattle.bits.specs.Lists.{All}
+use Rattle.numbers.specs.Lists.{All}
 use Rattle.calls.specs.Causes.{Cause, cause, numberDue, refused, accepted, judged}
 use Rattle.calls.specs.Clauses.{Clause, clause, Due}
 

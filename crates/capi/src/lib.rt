@@ -5,7 +5,7 @@ use expander::Choice;
 use search::Found;
 ghost use mathlib.Core.Path.{_≡_};
 ghost use lib.ListN.{length};
-ghost use Rattle.bits.specs.Places.{overlay};
+ghost use Rattle.numbers.specs.Places.{overlay};
 ghost use Rattle.capi.specs.Block.{blockOutcome};
 ghost use Rattle.capi.specs.Combined.{kindNumber};
 ghost use Rattle.combine.specs.Combine.{combineOutcome, combineKind};
@@ -35,8 +35,8 @@ pub extern "C" fn tally_block(expander: u64, seed: &[u8], j: u64, block: &mut [u
                     length: 0,
                 };
             }
-            let bytes = expander::block(e, bits::numbers::read16(seed, 0), j);
-            bits::numbers::write16(block, 0, bytes);
+            let bytes = expander::block(e, numbers::read16(seed, 0), j);
+            numbers::write16(block, 0, bytes);
             Reply {
                 number: 0,
                 length: 16,

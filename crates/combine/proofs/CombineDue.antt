@@ -7,14 +7,14 @@ use mathlib.Core.List.{List·Memᴰ·head as here, List·Memᴰ·tail as there}
 use borrow.Author.Tests.{le-ltb, ltb-false}
 use lib.ListN.{length, getD}
 use lib.Dec.{T, eqb, ltb, ltb→lt, lt→ltb, not-T}
-use Rattle.bits.specs.Lists.{_∈_}
+use Rattle.numbers.specs.Lists.{_∈_}
 use Rattle.calls.specs.Bounds.{lengthOutside, thresholdOutside}
 use Rattle.calls.specs.Clauses.{Due}
 use Rattle.calls.proofs.Decisions.{passed, failed, failed-test, differ, differ-test, either, either-test, beyond, beyond-test}
 use Rattle.calls.proofs.Judged.{due, none, next as also}
 use Rattle.group.specs.Modular.{p}
-use Rattle.tree.specs.Query.{limit, IsQuery, isQuery, prefixCount}
-use Rattle.tree.proofs.Queries.{query-exact}
+use Rattle.query.specs.Query.{limit, IsQuery, isQuery, prefixCount}
+use Rattle.query.proofs.Queries.{query-exact}
 use Rattle.combine.specs.Answer.{numbers, Answer, next, list, ended}
 use Rattle.combine.specs.Combine.{WrongShares, wrongShares, NumberTooLarge, allBelow, PassesLimit, passesLimit, combineAnswer, combineBytes, combineClauses, combineOutcome}
 

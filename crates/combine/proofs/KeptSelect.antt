@@ -7,13 +7,13 @@ use mathlib.Core.List.{List, [], _∷_, map}
 use lib.ListN.{length}
 use lib.Seq.{take-at, drop-at}
 use lib.Dec.{leb}
-use Rattle.bits.specs.Lists.{select}
+use Rattle.numbers.specs.Lists.{select}
 use Rattle.bits.specs.Strings.{Bits}
-use Rattle.bits.specs.Numbers.{little, fromLittle}
-use Rattle.bits.proofs.Endian.{little-length, fromLittle-little}
+use Rattle.numbers.specs.Numbers.{little, fromLittle}
+use Rattle.numbers.proofs.Endian.{little-length, fromLittle-little}
 use Rattle.group.specs.Group.{Group}
 use Rattle.group.specs.Modular.{field}
-use Rattle.tree.specs.Query.{parts, prefixesOf}
+use Rattle.query.specs.Query.{parts, prefixesOf}
 use Rattle.tree.specs.Search.{totals}
 use Rattle.tree.proofs.Lengths.{totals-length}
 use Rattle.combine.specs.Answer.{numbers, added, kept}

@@ -8,16 +8,15 @@ use mathlib.Core.Option.{none, some}
 use borrow.Author.Tests.{eqb-true, eqb-false, ltb-false}
 use lib.ListN.{length, getD}
 use lib.Dec.{leb, ltb, eqb}
-use Rattle.bits.specs.Lists.{All}
+use Rattle.numbers.specs.Lists.{All}
 use Rattle.bits.specs.Strings.{Bits, Before, Ascending}
 use Rattle.calls.specs.Causes.{numberDue}
 use Rattle.calls.proofs.Decisions.{neither}
 use Rattle.calls.proofs.Judged.{judged-clear, judged-accepted, judged-due}
 use Rattle.group.specs.Modular.{field}
-use Rattle.tree.specs.Query.{query, limit, IsQuery, prefixLength, prefixesOf}
-use Rattle.tree.specs.Search.{children}
+use Rattle.query.specs.Query.{query, limit, IsQuery, prefixLength, prefixesOf, children}
 use Rattle.tree.proofs.Asked.{next-query}
-use Rattle.tree.proofs.Queries.{ascending-test}
+use Rattle.query.proofs.Queries.{ascending-test}
 use Rattle.query.proofs.Ready.{ready as query-ready}
 use Rattle.combine.specs.Answer.{numbers, added, kept, Answer, next, list, ended, further, answer, answerBytes, nextQuery, kind}
 use Rattle.combine.specs.Combine.{keptPrefixes, combineAnswer, combineBytes, passesLimit, combineCauses, combineOutcome, combineKind}

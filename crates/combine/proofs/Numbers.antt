@@ -7,12 +7,12 @@ use mathlib.Core.List.{List, _∷_, map}
 use borrow.Author.Tests.{lt-ltb, le-ltb}
 use lib.ListN.{length, drop}
 use lib.Dec.{leb}
-use Rattle.bits.specs.Lists.{digit, number}
-use Rattle.bits.specs.Numbers.{fromLittle}
-use Rattle.bits.specs.Places.{window}
-use Rattle.bits.proofs.Places.{window-inside}
+use Rattle.numbers.specs.Lists.{digit, number}
+use Rattle.numbers.specs.Numbers.{fromLittle}
+use Rattle.numbers.specs.Places.{window}
+use Rattle.numbers.proofs.Places.{window-inside}
 use Rattle.group.specs.Modular.{p, field}
-use Rattle.tree.specs.Query.{parts}
+use Rattle.query.specs.Query.{parts}
 use Rattle.query.proofs.Parts.{parts-step}
 use Rattle.combine.specs.Answer.{added}
 use Rattle.combine.specs.Combine.{allBelow}

@@ -8,15 +8,14 @@ use mathlib.Core.Option.{some}
 use borrow.Author.Tests.{eq-eqb, ne-eqb}
 use lib.ListN.{length}
 use lib.Dec.{ltb}
-use Rattle.bits.specs.Lists.{All}
+use Rattle.numbers.specs.Lists.{All}
 use Rattle.bits.specs.Strings.{Bits}
-use Rattle.bits.specs.Places.{overlay}
-use Rattle.bits.proofs.Places.{overlay-nil}
+use Rattle.numbers.specs.Places.{overlay}
+use Rattle.numbers.proofs.Places.{overlay-nil}
 use Rattle.calls.specs.Bounds.{lengthOutside, thresholdOutside}
 use Rattle.calls.specs.Causes.{Cause, cause, numberDue, accepted, judged}
 use Rattle.calls.proofs.Judged.{judged-due, judged-refused}
-use Rattle.tree.specs.Query.{isQuery, prefixLength}
-use Rattle.tree.specs.Search.{children}
+use Rattle.query.specs.Query.{isQuery, prefixLength, children}
 use Rattle.combine.specs.declared.Combined.{Combined}
 use Rattle.combine.specs.declared.Combined.the-variants.{Refused}
 use Rattle.combine.specs.Answer.{numbers, Answer, next, list, ended, further, answerBytes, kind, numberOf, lengthOf, kindOf}

@@ -10,11 +10,10 @@ use lib.Dec.{leb}
 use Rattle.bits.specs.Strings.{Bits, _▹_}
 use Rattle.bits.specs.Packing.{packedLength, pack, unpack, spareZero}
 use Rattle.bits.proofs.Append.{append-length}
-use Rattle.bits.specs.Places.{putAt}
-use Rattle.bits.proofs.Places.{Grown, putAt-length, putAt-more}
+use Rattle.numbers.specs.Places.{putAt}
+use Rattle.numbers.proofs.Places.{Grown, putAt-length, putAt-more}
 use Rattle.bits.proofs.Packed.{pack-length, pack-unpack}
-use Rattle.tree.specs.Query.{packs, parts, prefixLength, prefixCount, packedPrefixes, sparesZero}
-use Rattle.tree.specs.Search.{children}
+use Rattle.query.specs.Query.{packs, parts, prefixLength, prefixCount, packedPrefixes, sparesZero, children}
 use Rattle.query.proofs.Parts.{peel, part-bytes, parts-step}
 use Rattle.combine.specs.Answer.{kept}
 use Rattle.combine.specs.Combine.{keptPrefixes}

@@ -7,7 +7,7 @@ use mathlib.Core.List.{List, [], _∷_}
 use borrow.Author.Tests.{eqb-true, ltb-false, not-false}
 use lib.ListN.{length, getD, take, drop, length-map}
 use lib.Dec.{leb, eqb, ltb}
-use Rattle.bits.specs.Lists.{All, digit, number}
+use Rattle.numbers.specs.Lists.{All, digit, number}
 use Rattle.bits.specs.Strings.{Bits}
 use Rattle.bits.specs.Packing.{packedLength, unpack}
 use Rattle.calls.specs.Causes.{Cause, numberDue}
@@ -15,10 +15,9 @@ use Rattle.calls.proofs.Decisions.{neither}
 use Rattle.calls.proofs.Judged.{judged-due, judged-clear}
 use Rattle.group.specs.Group.{Group}
 use Rattle.group.specs.Modular.{field}
-use Rattle.tree.specs.Query.{OfLength, packs, query, isQuery, prefixLength, prefixCount, packedPrefixes, prefixesOf, parts}
-use Rattle.tree.specs.Search.{children}
-use Rattle.tree.proofs.Children.{children-length, children-longer}
-use Rattle.tree.proofs.Queries.{packs-length, query-length, parts-length, query-exact, read-length, read-prefixes}
+use Rattle.query.specs.Query.{OfLength, packs, query, isQuery, prefixLength, prefixCount, packedPrefixes, prefixesOf, parts, children}
+use Rattle.query.proofs.Children.{children-length, children-longer}
+use Rattle.query.proofs.Queries.{packs-length, query-length, parts-length, query-exact, read-length, read-prefixes}
 use Rattle.combine.specs.Answer.{numbers, added, kept}
 use Rattle.combine.specs.Combine.{combineCauses, keptPrefixes}
 

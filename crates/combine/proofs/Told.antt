@@ -7,17 +7,16 @@ use mathlib.Core.List.{List, _++_, append-assoc}
 use borrow.Author.Tests.{lt-ltb, le-ltb}
 use lib.ListN.{length, getD, length-append}
 use lib.Dec.{leb, ltb}
-use Rattle.bits.specs.Lists.{number}
+use Rattle.numbers.specs.Lists.{number}
 use Rattle.bits.specs.Strings.{Bits}
-use Rattle.bits.specs.Numbers.{big}
+use Rattle.numbers.specs.Numbers.{big}
 use Rattle.bits.specs.Packing.{packedLength}
-use Rattle.bits.specs.Places.{putAt}
-use Rattle.bits.proofs.Endian.{big-length}
-use Rattle.bits.proofs.Places.{putAt-overlay, putAt-more, overlay-nil}
+use Rattle.numbers.specs.Places.{putAt}
+use Rattle.numbers.proofs.Endian.{big-length}
+use Rattle.numbers.proofs.Places.{putAt-overlay, putAt-more, overlay-nil}
 use Rattle.calls.proofs.Decisions.{neither-test}
 use Rattle.group.specs.Modular.{field}
-use Rattle.tree.specs.Query.{packs, query, limit, prefixLength}
-use Rattle.tree.specs.Search.{children}
+use Rattle.query.specs.Query.{packs, query, limit, prefixLength, children}
 use Rattle.combine.specs.declared.Combined.the-variants.{Next, List as Found, Ended, Refused}
 use Rattle.combine.specs.Answer.{numbers, added, next, list, ended}
 use Rattle.combine.specs.Combine.{keptPrefixes}

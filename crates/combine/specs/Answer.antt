@@ -6,10 +6,9 @@ use mathlib.Core.Option.{Option, none, some}
 use lib.ListN.{length}
 use lib.Dec.{eqb}
 use Rattle.bits.specs.Strings.{Bits}
-use Rattle.bits.specs.Numbers.{fromLittle}
+use Rattle.numbers.specs.Numbers.{fromLittle}
 use Rattle.group.specs.Group.{Group}
-use Rattle.tree.specs.Query.{packs, query, parts}
-use Rattle.tree.specs.Search.{children}
+use Rattle.query.specs.Query.{packs, query, parts, children}
 use Rattle.combine.specs.declared.Combined.{Combined}
 use Rattle.combine.specs.declared.Combined.the-variants.{Next, List as Found, Ended, Refused}
 

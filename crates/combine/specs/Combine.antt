@@ -6,13 +6,13 @@ use mathlib.Core.Logic.{_≢_, _⊎_}
 use mathlib.Core.Option.{Option, none, some}
 use lib.ListN.{length}
 use lib.Dec.{leb, ltb, eqb}
-use Rattle.bits.specs.Lists.{_∈_}
+use Rattle.numbers.specs.Lists.{_∈_}
 use Rattle.bits.specs.Strings.{Bits}
 use Rattle.calls.specs.Bounds.{LengthOutside, lengthOutside, ThresholdOutside, thresholdOutside}
 use Rattle.calls.specs.Causes.{Cause, cause, numberDue, Outcome, judged}
 use Rattle.calls.specs.Clauses.{Clause, clause}
 use Rattle.group.specs.Modular.{p, field}
-use Rattle.tree.specs.Query.{limit, IsQuery, isQuery, prefixLength, prefixCount, prefixesOf}
+use Rattle.query.specs.Query.{limit, IsQuery, isQuery, prefixLength, prefixCount, prefixesOf}
 use Rattle.combine.specs.Answer.{numbers, added, kept, Answer, next, list, ended, answer, answerBytes, Kind, kind}
 
 -- Two lent shares have the wrong length: their lengths differ or are no multiple of 8, or the query passes 9 and its count is another.

@@ -5,7 +5,7 @@ ghost use Prim.Native.Nat.{_*_, _%_};
 ghost use lib.ListN.{length, take};
 ghost use lib.Dec.{eqb};
 ghost use Rattle.calls.specs.Causes.{numberDue};
-ghost use Rattle.tree.specs.Query.{prefixCount};
+ghost use Rattle.query.specs.Query.{prefixCount};
 ghost use Rattle.combine.specs.Answer.{numbers};
 ghost use Rattle.combine.specs.Combine.{allBelow, combineCauses};
 
@@ -32,7 +32,7 @@ fn all_below(share: &[u8]) -> bool
     let mut left = share.len() / 8;
     let mut place = 0;
     while 0 < left {
-        if group::P <= bits::numbers::read_le8(share, place) {
+        if group::P <= numbers::read_le8(share, place) {
             return false;
         }
         place += 8;

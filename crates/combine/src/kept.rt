@@ -1,12 +1,12 @@
 // Totals, and which prefixes are kept.
-use bits::numbers::read_le8;
+use numbers::read_le8;
 ghost use mathlib.Core.Path.{_≡_};
 ghost use Prim.Native.Nat.{_*_, _≤_};
 ghost use lib.ListN.{length};
 ghost use lib.Dec.{leb};
-ghost use Rattle.bits.specs.Lists.{number};
-ghost use Rattle.bits.specs.Numbers.{fromLittle};
-ghost use Rattle.bits.specs.Places.{window};
+ghost use Rattle.numbers.specs.Lists.{number};
+ghost use Rattle.numbers.specs.Numbers.{fromLittle};
+ghost use Rattle.numbers.specs.Places.{window};
 ghost use Rattle.group.specs.Modular.{field};
 ghost use Rattle.combine.specs.Answer.{numbers, added};
 

@@ -3,10 +3,10 @@ use crate::checks::first_cause;
 use crate::kept::count_kept;
 use crate::writing::write_children;
 use crate::writing::write_list;
-use bits::packing::packed_length;
+use bits::packed_length;
 ghost use mathlib.Core.Path.{_≡_};
 ghost use lib.ListN.{length};
-ghost use Rattle.bits.specs.Places.{overlay};
+ghost use Rattle.numbers.specs.Places.{overlay};
 ghost use Rattle.combine.specs.Answer.{numberOf, lengthOf, kindOf};
 ghost use Rattle.combine.specs.Combine.{combineOutcome, combineKind};
 

@@ -1,7 +1,7 @@
 // The kept prefixes of a query, or their children, one after the other.
 use crate::kept::is_kept;
-use bits::numbers::copy;
-use bits::packing::packed_length;
+use bits::packed_length;
+use numbers::copy;
 use query::prefix_count;
 use query::prefix_length;
 use query::write_child;
@@ -12,9 +12,8 @@ ghost use Prim.Native.Nat.{suc, _+_, _*_, _≤_};
 ghost use lib.ListN.{length, take, drop};
 ghost use Rattle.bits.specs.Strings.{_▹_};
 ghost use Rattle.bits.specs.Packing.{packedLength, pack, unpack};
-ghost use Rattle.bits.specs.Places.{putAt};
-ghost use Rattle.tree.specs.Query.{packs, prefixLength, prefixCount, packedPrefixes, sparesZero};
-ghost use Rattle.tree.specs.Search.{children};
+ghost use Rattle.numbers.specs.Places.{putAt};
+ghost use Rattle.query.specs.Query.{packs, prefixLength, prefixCount, packedPrefixes, sparesZero, children};
 ghost use Rattle.combine.specs.Combine.{keptPrefixes};
 
 // The packed prefix in w bytes from place `from` on, into the places from `at` on if it is kept; and the place after it.

@@ -8,8 +8,8 @@ use mathlib.Core.List.{List, [], _∷_, _++_, append-nil, append-assoc}
 use borrow.Author.Tests.{leb-true, le-leb, lt-ltb, le-ltb}
 use lib.ListN.{length, getD, length-append, List·getD-append, List·getD-eq-default}
 use lib.Dec.{leb}
-use Rattle.bits.specs.Lists.{All}
-use Rattle.tree.proofs.Lists.{and-left, and-right}
+use Rattle.numbers.specs.Lists.{All}
+use Rattle.numbers.proofs.Lists.{and-left, and-right}
 use Rattle.exam_text.specs.Characters.{glyph, decimalIn}
 use Rattle.exam_text.specs.Reader.{isDecimal, numberAfter}
 

@@ -8,7 +8,7 @@ use mathlib.Core.List.{List}
 use borrow.Author.Tests.{ltb-false}
 use lib.ListN.{length}
 use lib.Dec.{ltb, ltb→lt, lt→ltb}
-use Rattle.bits.specs.Lists.{All}
+use Rattle.numbers.specs.Lists.{All}
 use Rattle.calls.specs.Bounds.{LengthOutside, lengthOutside, ThresholdOutside, thresholdOutside}
 use Rattle.calls.specs.Causes.{Outcome, refused, judged}
 use Rattle.calls.specs.Clauses.{Due}

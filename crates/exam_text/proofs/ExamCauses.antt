@@ -6,8 +6,8 @@ use mathlib.Core.Bool.{true, false}
 use mathlib.Core.List.{List, [], _∷_}
 use lib.ListN.{length}
 use lib.Dec.{ltb}
-use Rattle.bits.specs.Places.{overlay}
-use Rattle.bits.proofs.Places.{overlay-nil}
+use Rattle.numbers.specs.Places.{overlay}
+use Rattle.numbers.proofs.Places.{overlay-nil}
 use Rattle.calls.specs.Causes.{cause, refused, judged}
 use Rattle.calls.proofs.Decisions.{below-bounds, above-bounds, in-bounds}
 use Rattle.expander.specs.Expander.{isExpander}

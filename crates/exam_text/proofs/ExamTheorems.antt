@@ -8,8 +8,8 @@ use mathlib.Core.List.{List, [], _∷_, _++_}
 use borrow.Author.Tests.{ltb-false, le-ltb}
 use lib.ListN.{length, drop}
 use lib.Dec.{ltb}
-use Rattle.bits.specs.Places.{overlay}
-use Rattle.bits.proofs.Places.{overlay-nil}
+use Rattle.numbers.specs.Places.{overlay}
+use Rattle.numbers.proofs.Places.{overlay-nil}
 use Rattle.calls.specs.Bounds.{lengthOutside, thresholdOutside}
 use Rattle.calls.specs.Causes.{cause, Outcome, judged}
 use Rattle.calls.specs.Clauses.{Due}

@@ -9,7 +9,7 @@ use borrow.Author.Tests.{leb-true, le-leb, lt-leb, eq-eqb, ne-eqb}
 use lib.ListN.{length, getD, drop, List·getD-eq-default}
 use lib.Seq.{drop-drop, getD-drop}
 use lib.Dec.{leb, eqb}
-use Rattle.tree.proofs.Lists.{and-left, and-right}
+use Rattle.numbers.proofs.Lists.{and-left, and-right}
 use Rattle.exam_text.specs.Reader.{leading, isNumber, numberThen, firstNumber, behind}
 use Rattle.exam_text.specs.Reading.{FieldRead}
 

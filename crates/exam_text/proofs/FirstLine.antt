@@ -7,7 +7,7 @@ use mathlib.Core.List.{List}
 use borrow.Author.Tests.{eqb-true, ne-eqb}
 use lib.ListN.{length, getD, drop}
 use lib.Dec.{eqb}
-use Rattle.tree.proofs.Lists.{and-left, and-right}
+use Rattle.numbers.proofs.Lists.{and-left, and-right}
 use Rattle.exam_text.specs.Characters.{space, newline}
 use Rattle.exam_text.specs.Reader.{leading, isNumber, numberThen, second, third, isFirstLine, expanderOf, afterFirstLine}
 use Rattle.exam_text.specs.Reading.{FieldRead, EndSays, EndRead, FirstLineSays, FirstLineRead}

@@ -9,7 +9,7 @@ use mathlib.Core.Option.{Option, none, some}
 use borrow.Author.Tests.{eqb-true}
 use lib.ListN.{length, getD}
 use lib.Dec.{eqb}
-use Rattle.tree.proofs.Lists.{and-left, and-right}
+use Rattle.numbers.proofs.Lists.{and-left, and-right}
 use Rattle.exam_text.specs.Characters.{space, newline, decimal}
 use Rattle.exam_text.specs.Sheet.{FiveDigits, expanderNumber, expanderText}
 use Rattle.exam_text.specs.Reader.{isDecimal, leading, isNumber, numberThen, firstNumber, behind, second, third, fourth, hasExpander, isFirstLine, expanderOf, afterFirstLine, lengthRead, thresholdRead, countRead}

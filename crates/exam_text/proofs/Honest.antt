@@ -8,13 +8,13 @@ use lib.ListN.{length}
 use lib.Dec.{leb}
 use Rattle.bits.specs.Strings.{Bits, count}
 use Rattle.expander.specs.Expander.{isExpander}
-use Rattle.tree.specs.Query.{OfLength, packs}
+use Rattle.query.specs.Query.{OfLength, packs}
 use Rattle.tree.specs.Search.{searchRecord, searchList}
 use Rattle.search.specs.Search.{Lent, searchNumber}
 use Rattle.search.proofs.Outcome.{Sound, accepted-clear}
-use Rattle.demands.specs.Honest.{Accepted, recordRead, listRead, Honest}
-use Rattle.demands.proofs.Counted.{few-strings, accepted-record, accepted-list}
-use Rattle.demands.proofs.Demand2.{honest-accepted}
+use Rattle.honest.specs.Honest.{Accepted, recordRead, listRead, Honest}
+use Rattle.honest.proofs.Counted.{few-strings, accepted-record, accepted-list}
+use Rattle.honest.proofs.Demand2.{honest-accepted}
 use Rattle.exam_text.specs.Sheet.{Sheet, strings}
 use Rattle.exam_text.specs.Answer.{answerText}
 use Rattle.exam_text.specs.Printing.{printed, Rounds}

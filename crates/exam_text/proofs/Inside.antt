@@ -4,7 +4,7 @@ use native.Mathlib.Omega.{arith}
 use mathlib.Core.Path.{_≡_}
 use mathlib.Core.List.{List}
 use lib.ListN.{length, drop, length-append}
-use Rattle.bits.specs.Places.{overlay}
+use Rattle.numbers.specs.Places.{overlay}
 
 pub inside : (k : ℕ) (vs l after : List ℕ) → k ≡ length vs → after ≡ overlay vs l → k ≤ length after
 unfolding overlay

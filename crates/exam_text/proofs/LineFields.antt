@@ -10,9 +10,9 @@ use borrow.Author.Tests.{leb-true, le-leb, lt-leb, eqb-true}
 use lib.ListN.{length, getD}
 use lib.Dec.{leb, eqb}
 use Rattle.bits.specs.Strings.{Bits}
-use Rattle.bits.specs.Numbers.{Bytes}
-use Rattle.bits.proofs.Endian.{bytes-head, bytes-tail}
-use Rattle.tree.proofs.Lists.{and-left, and-right}
+use Rattle.numbers.specs.Numbers.{Bytes}
+use Rattle.numbers.proofs.Endian.{bytes-head, bytes-tail}
+use Rattle.numbers.proofs.Lists.{and-left, and-right}
 use Rattle.exam_text.specs.Characters.{glyph, binary, hexadecimal}
 use Rattle.exam_text.specs.Reader.{isDecimal, areBits, bitsRead, isHex, hexValue, areHex, bytesRead}
 use Rattle.exam_text.proofs.Decimals.{decimal-low, decimal-high, in-decimal, glyph-low, glyph-high}

@@ -6,15 +6,15 @@ use mathlib.Core.Bool.{true}
 use mathlib.Core.List.{List, [], map}
 use lib.ListN.{length, getD, take, drop, length-map, List·getD-map}
 use Rattle.bits.specs.Strings.{Bits}
-use Rattle.bits.specs.Numbers.{Bytes}
+use Rattle.numbers.specs.Numbers.{Bytes}
 use Rattle.bits.specs.Packing.{packedLength, pack}
 use Rattle.calls.specs.Causes.{Outcome}
 use Rattle.expander.specs.Expander.{isExpander}
 use Rattle.point.specs.PublicShare.{publicShareLength}
 use Rattle.keymaker.specs.Key.{keyOutcome}
 use Rattle.search.proofs.Outcome.{named-expander}
-use Rattle.demands.proofs.Pieces.{all-at}
-use Rattle.demands.proofs.Keys.{honest-report, key-accepted, key-passes}
+use Rattle.honest.proofs.Pieces.{all-at}
+use Rattle.honest.proofs.Keys.{honest-report, key-accepted, key-passes}
 use Rattle.exam_text.specs.Sheet.{Line}
 use Rattle.exam_text.specs.Reader.{bitsRead, bytesRead, lineLength, lineOf, areLines, linesOf}
 use Rattle.exam_text.proofs.LineTests.{string-part, seed0-part, seed1-part}

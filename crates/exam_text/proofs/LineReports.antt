@@ -7,10 +7,10 @@ use mathlib.Core.Bool.{true}
 use mathlib.Core.List.{List, []}
 use lib.ListN.{length, getD, take, drop}
 use Rattle.bits.specs.Strings.{Bits}
-use Rattle.bits.specs.Numbers.{Bytes}
+use Rattle.numbers.specs.Numbers.{Bytes}
 use Rattle.bits.specs.Packing.{pack}
-use Rattle.bits.specs.Places.{putAt}
-use Rattle.bits.proofs.Places.{putAt-nil, putAt-length}
+use Rattle.numbers.specs.Places.{putAt}
+use Rattle.numbers.proofs.Places.{putAt-nil, putAt-length}
 use Rattle.expander.specs.Expander.{isExpander}
 use Rattle.point.specs.PublicShare.{joined, publicShareLength}
 use Rattle.point.proofs.Joined.{joined-length, joined-at, joined-byte}
@@ -18,8 +18,8 @@ use Rattle.keymaker.specs.Key.{keyOutcome}
 use Rattle.idpf.specs.Reports.{seedAt}
 use Rattle.search.specs.Search.{Lent, lent}
 use Rattle.search.proofs.Outcome.{named-expander}
-use Rattle.demands.specs.Honest.{keyAt, Honest}
-use Rattle.demands.proofs.Making.{made-honest}
+use Rattle.honest.specs.Honest.{keyAt, Honest}
+use Rattle.honest.proofs.Making.{made-honest}
 use Rattle.exam_text.specs.Reader.{areLines}
 use Rattle.exam_text.proofs.LinesText.{lines-read}
 use Rattle.exam_text.proofs.LineKeys.{keyOf, key-size, lineAt, stringsOf, strings-length, string-at, sound-at}

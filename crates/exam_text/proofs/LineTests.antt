@@ -10,7 +10,7 @@ use lib.ListN.{length, getD, take, drop, length-drop}
 use lib.Seq.{drop-cons, drop-drop, take-take, getD-take, getD-drop}
 use lib.Dec.{leb, eqb}
 use Rattle.query.proofs.Parts.{peel}
-use Rattle.tree.proofs.Lists.{and-left, and-right}
+use Rattle.numbers.proofs.Lists.{and-left, and-right}
 use Rattle.exam_text.specs.Reader.{isHex, areBits, areHex, lineLength, stringPart, seed0Part, seed1Part, isLine, areLines}
 
 -- ---- characters

@@ -8,10 +8,10 @@ use borrow.Author.Tests.{leb-true, le-leb, eqb-true}
 use lib.ListN.{length, getD, take, drop, length-append, length-map, take-append-drop}
 use lib.Seq.{take-at, drop-at, length-take-le}
 use lib.Dec.{leb, eqb}
-use Rattle.bits.specs.Lists.{All}
-use Rattle.bits.specs.Numbers.{Bytes}
-use Rattle.tree.specs.Query.{OfLength}
-use Rattle.tree.proofs.Lists.{and-left, and-right}
+use Rattle.numbers.specs.Lists.{All}
+use Rattle.numbers.specs.Numbers.{Bytes}
+use Rattle.query.specs.Query.{OfLength}
+use Rattle.numbers.proofs.Lists.{and-left, and-right}
 use Rattle.exam_text.specs.Characters.{space, newline, binary, hexadecimal}
 use Rattle.exam_text.specs.Sheet.{Line, lineText, linesText}
 use Rattle.exam_text.specs.Reader.{areBits, areHex, lineLength, stringPart, seed0Part, seed1Part, isLine, lineOf, areLines, linesOf}

@@ -6,12 +6,12 @@ use mathlib.Core.Path.{_≡_, refl, ap}
 use mathlib.Core.List.{List, [], _∷_, _++_}
 use lib.ListN.{length, length-append, length-map}
 use lib.Dec.{leb}
-use Rattle.bits.specs.Lists.{select}
+use Rattle.numbers.specs.Lists.{select}
 use Rattle.bits.specs.Strings.{Bits, count}
-use Rattle.tree.specs.Query.{OfLength}
-use Rattle.tree.specs.Search.{start, children, searchList}
-use Rattle.tree.proofs.Lists.{all-map}
-use Rattle.tree.proofs.Children.{children-length, children-longer}
+use Rattle.query.specs.Query.{OfLength, children}
+use Rattle.tree.specs.Search.{start, searchList}
+use Rattle.numbers.proofs.Lists.{all-map}
+use Rattle.query.proofs.Children.{children-length, children-longer}
 use Rattle.tree.proofs.Kept.{Survives, list-length}
 use Rattle.tree.proofs.Totals.{count-le, heavy, Stands, stands-start, stands-kept, stands-few, kept-length}
 use Rattle.exam_text.specs.Characters.{space, newline, binary, decimal}

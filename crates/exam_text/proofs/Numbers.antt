@@ -10,7 +10,7 @@ use borrow.Author.Tests.{leb-true, le-leb, eqb-true, eq-eqb, eqb-false, ne-eqb, 
 use lib.ListN.{length, getD, drop, List·getD-eq-default}
 use lib.Seq.{drop-cons, getD-append-seam, drop-append-add}
 use lib.Dec.{leb, eqb}
-use Rattle.tree.proofs.Lists.{and-left, and-right}
+use Rattle.numbers.proofs.Lists.{and-left, and-right}
 use Rattle.exam_text.specs.Characters.{decimalIn, decimal}
 use Rattle.exam_text.specs.Reader.{isDecimal, leading, numberAfter, isNumber, numberThen, firstNumber, behind}
 use Rattle.exam_text.proofs.Decimals.{Digits, decimal-low, decimal-high, decimal-one, decimal-enough, decimal-digits, decimal-some, decimal-few, decimal-first, number-decimal, decimal-after}

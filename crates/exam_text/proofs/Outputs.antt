@@ -7,8 +7,8 @@ use mathlib.Core.List.{List, [], _∷_, _++_}
 use borrow.Author.Tests.{ltb-false, le-ltb, ne-eqb}
 use lib.ListN.{length, drop, length-append}
 use lib.Dec.{ltb, ltb→lt, lt→ltb}
-use Rattle.bits.specs.Places.{overlay}
-use Rattle.bits.proofs.Places.{overlay-nil}
+use Rattle.numbers.specs.Places.{overlay}
+use Rattle.numbers.proofs.Places.{overlay-nil}
 use Rattle.calls.specs.Causes.{cause, Outcome, accepted}
 use Rattle.calls.specs.Clauses.{Clause, clause, Due}
 use Rattle.calls.proofs.Judged.{next, due, due-unique, judged-refused, judged-accepted, judged-clear, _&_}

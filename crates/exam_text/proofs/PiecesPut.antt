@@ -6,8 +6,8 @@ use mathlib.Core.Path.{_≡_, refl, sym, ap, ap₂, _∙_}
 use mathlib.Core.List.{List, [], _++_, append-assoc, append-nil}
 use lib.ListN.{length, take, drop, length-drop, drop-of-length-le}
 use lib.Seq.{take-at, drop-drop, length-take-le}
-use Rattle.bits.specs.Places.{putAt, overlay}
-use Rattle.bits.proofs.Places.{putAt-inside, putAt-more, putAt-overlay}
+use Rattle.numbers.specs.Places.{putAt, overlay}
+use Rattle.numbers.proofs.Places.{putAt-inside, putAt-more, putAt-overlay}
 use Rattle.point.specs.PublicShare.{joined}
 use Rattle.point.proofs.Joined.{joined-length}
 

@@ -8,7 +8,7 @@ use mathlib.Core.List.{List}
 use lib.ListN.{length, getD, take, drop, length-drop}
 use lib.Seq.{drop-drop}
 use lib.Dec.{leb}
-use Rattle.tree.proofs.Lists.{and-left, and-right}
+use Rattle.numbers.proofs.Lists.{and-left, and-right}
 use Rattle.exam_text.specs.Sheet.{Line}
 use Rattle.exam_text.specs.Reader.{areHex, bitsRead, bytesRead, lineLength, isLine, lineOf, areLines, linesOf, isFirstLine, afterFirstLine, lengthRead, countRead, isSheet, sheetOf}
 use Rattle.exam_text.proofs.LineTests.{string-part, seed0-part, seed1-part, lineTests, line-tests, tests-seed0, tests-seed1, lines-length}

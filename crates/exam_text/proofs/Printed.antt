@@ -10,18 +10,18 @@ use borrow.Author.Tests.{leb-true, ne-eqb}
 use lib.ListN.{length, take, drop}
 use lib.Seq.{take-at, drop-at}
 use lib.Dec.{leb, eqb}
-use Rattle.bits.specs.Lists.{select}
+use Rattle.numbers.specs.Lists.{select}
 use Rattle.bits.specs.Strings.{Bits, count}
-use Rattle.bits.specs.Numbers.{little, fromLittle}
+use Rattle.numbers.specs.Numbers.{little, fromLittle}
 use Rattle.bits.specs.Packing.{packedLength, pack, unpack}
-use Rattle.bits.proofs.Endian.{little-length, fromLittle-little}
+use Rattle.numbers.proofs.Endian.{little-length, fromLittle-little}
 use Rattle.bits.proofs.Packed.{pack-length, unpack-pack}
-use Rattle.tree.specs.Query.{OfLength, packs, query, limit}
-use Rattle.tree.specs.Search.{start, children, totals, fitsFrom, recordFrom, heading, isKept, searchRecord, searchList, searchFits}
-use Rattle.tree.proofs.Lists.{and-left, and-right}
-use Rattle.tree.proofs.Children.{children-longer, kept-longer}
+use Rattle.query.specs.Query.{OfLength, packs, query, limit, children}
+use Rattle.tree.specs.Search.{start, totals, fitsFrom, recordFrom, heading, isKept, searchRecord, searchList, searchFits}
+use Rattle.numbers.proofs.Lists.{and-left, and-right}
+use Rattle.query.proofs.Children.{children-longer, kept-longer}
 use Rattle.tree.proofs.Steps.{record-nothing}
-use Rattle.tree.proofs.Queries.{packs-length}
+use Rattle.query.proofs.Queries.{packs-length}
 use Rattle.tree.proofs.Kept.{list-length}
 use Rattle.tree.proofs.Totals.{count-le, honest-fits}
 use Rattle.exam_text.specs.Sheet.{Sheet, strings}

@@ -7,7 +7,7 @@ use mathlib.Core.Bool.{Bool, false}
 use mathlib.Core.List.{List, [], _∷_}
 use lib.ListN.{length, getD, take, drop, length-take, drop-of-length-le}
 use lib.Seq.{drop-cons, getD-take}
-use Rattle.bits.specs.Lists.{digit}
+use Rattle.numbers.specs.Lists.{digit}
 use Rattle.bits.specs.Packing.{packedLength, bitsOf, unpack}
 use Rattle.bits.proofs.Packed.{unpack-length}
 use Rattle.exam_text.specs.Characters.{glyph, binary}

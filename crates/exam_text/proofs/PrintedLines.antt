@@ -7,9 +7,9 @@ use mathlib.Core.Logic.{inl, inr}
 use borrow.Author.Tests.{eq-eqb, ne-eqb}
 use lib.ListN.{length, take, drop, length-drop}
 use lib.Seq.{take-all, drop-drop}
-use Rattle.bits.specs.Numbers.{fromLittle}
+use Rattle.numbers.specs.Numbers.{fromLittle}
 use Rattle.bits.specs.Packing.{packedLength, unpack}
-use Rattle.tree.specs.Query.{prefixLength, prefixCount}
+use Rattle.query.specs.Query.{prefixLength, prefixCount}
 use Rattle.exam_text.specs.Answer.{prefixLine, heavyLine}
 use Rattle.exam_text.specs.Printing.{entryLines, queryLength, roundLength, recordLines, listLines, Rounds}
 

@@ -4,8 +4,8 @@ use native.Mathlib.Omega.{arith}
 use mathlib.Core.Path.{_≡_, ap}
 use mathlib.Core.List.{List, [], _++_, append-nil}
 use lib.ListN.{length, length-append}
-use Rattle.bits.specs.Places.{putAt}
-use Rattle.bits.proofs.Places.{Grown, grown-start, grown-room, grown-more, grown-end}
+use Rattle.numbers.specs.Places.{putAt}
+use Rattle.numbers.proofs.Places.{Grown, grown-start, grown-room, grown-more, grown-end}
 
 -- vs is written into d at a place: out is what is there then, and here the place behind it
 abbrev pub Wrote : List ℕ → ℕ → List ℕ → List ℕ → ℕ → Type 0

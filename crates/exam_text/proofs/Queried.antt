@@ -9,13 +9,14 @@ use mathlib.Core.List.{List·Memᴰ·head as here, List·Memᴰ·tail as there}
 use borrow.Author.Tests.{leb-true, le-leb}
 use lib.ListN.{length, length-append}
 use lib.Dec.{leb}
-use Rattle.bits.specs.Lists.{_∈_, All, select}
+use Rattle.numbers.specs.Lists.{_∈_, All, select}
 use Rattle.bits.specs.Strings.{Bits, _▹_, isPrefix, count}
-use Rattle.tree.specs.Search.{start, children, keptFrom, isKept, searchList}
+use Rattle.tree.specs.Search.{start, keptFrom, isKept, searchList}
+use Rattle.query.specs.Query.{children}
 use Rattle.tree.specs.Cut.{Heavy, prefixes}
-use Rattle.tree.proofs.Lists.{and-right, all-mem}
+use Rattle.numbers.proofs.Lists.{and-right, all-mem}
 use Rattle.tree.proofs.Prefixes.{prefixes-exact}
-use Rattle.tree.proofs.Children.{mem-children, all-children}
+use Rattle.query.proofs.Children.{mem-children, all-children}
 use Rattle.tree.proofs.Kept.{Survives, open-prefixes, list-survives, list-exact}
 use Rattle.exam_text.specs.Answer.{queriedFrom, queried}
 

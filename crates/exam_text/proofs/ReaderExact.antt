@@ -9,7 +9,7 @@ use mathlib.Core.Option.{none, some}
 use borrow.Author.Tests.{leb-true, le-leb}
 use lib.ListN.{length}
 use lib.Dec.{leb}
-use Rattle.tree.proofs.Lists.{and-left, and-right}
+use Rattle.numbers.proofs.Lists.{and-left, and-right}
 use Rattle.exam_text.specs.Sheet.{Line, Sheet, text, linesText, Within}
 use Rattle.exam_text.specs.Reader.{isFirstLine, areLines, lengthRead, countRead, afterFirstLine, isSheet, sheetOf, readSheet}
 use Rattle.exam_text.proofs.LinesText.{lines-are-lines, read-lines, LinesRead, lines-read}

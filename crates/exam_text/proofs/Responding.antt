@@ -8,7 +8,7 @@ use mathlib.Core.List.{List, [], _∷_}
 use borrow.Author.Tests.{ne-eqb}
 use lib.ListN.{length}
 use lib.Dec.{ltb, eqb}
-use Rattle.bits.specs.Places.{overlay}
+use Rattle.numbers.specs.Places.{overlay}
 use Rattle.calls.specs.Bounds.{lengthOutside, thresholdOutside}
 use Rattle.calls.specs.Causes.{cause, Outcome, judged}
 use Rattle.expander.specs.Expander.{isExpander}

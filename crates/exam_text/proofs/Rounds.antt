@@ -6,13 +6,13 @@ use mathlib.Core.List.{List, _++_, append-assoc}
 use lib.ListN.{length, take, drop, length-append, length-drop}
 use lib.Seq.{take-append-le, drop-append-le, drop-at}
 use Rattle.bits.specs.Strings.{Bits}
-use Rattle.bits.specs.Numbers.{big, fromBig}
-use Rattle.bits.specs.Places.{window}
-use Rattle.bits.proofs.Endian.{big-length}
-use Rattle.bits.proofs.Places.{window-inside}
-use Rattle.tree.specs.Query.{OfLength, packs, query, prefixLength, prefixCount}
+use Rattle.numbers.specs.Numbers.{big, fromBig}
+use Rattle.numbers.specs.Places.{window}
+use Rattle.numbers.proofs.Endian.{big-length}
+use Rattle.numbers.proofs.Places.{window-inside}
+use Rattle.query.specs.Query.{OfLength, packs, query, prefixLength, prefixCount}
 use Rattle.tree.specs.Search.{totals}
-use Rattle.tree.proofs.Queries.{query-length, read-length, read-count}
+use Rattle.query.proofs.Queries.{query-length, read-length, read-count}
 use Rattle.tree.proofs.Lengths.{totals-length}
 use Rattle.exam_text.specs.Printing.{queryLength, roundLength}
 

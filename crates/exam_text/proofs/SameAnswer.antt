@@ -6,7 +6,7 @@ use mathlib.Core.List.{List, _++_}
 use mathlib.Core.Option.{none, some}
 use lib.ListN.{length}
 use lib.Dec.{leb}
-use Rattle.bits.specs.Lists.{_∈_}
+use Rattle.numbers.specs.Lists.{_∈_}
 use Rattle.bits.specs.Strings.{Bits, isPrefix, count, Ascending}
 use Rattle.calls.specs.Causes.{judged}
 use Rattle.expander.specs.Expander.{isExpander}

@@ -7,7 +7,7 @@ use mathlib.Core.List.{List, [], _∷_}
 use borrow.Author.Tests.{ltb-false, not-false}
 use lib.ListN.{length, getD, replicate, length-map, length-replicate}
 use lib.Dec.{ltb}
-use Rattle.bits.specs.Numbers.{Bytes}
+use Rattle.numbers.specs.Numbers.{Bytes}
 use Rattle.bits.specs.Packing.{pack}
 use Rattle.calls.proofs.Decisions.{neither}
 use Rattle.expander.specs.Expander.{isExpander}
@@ -16,9 +16,9 @@ use Rattle.point.proofs.Joined.{joined-length, joined-at, joined-byte}
 use Rattle.keymaker.specs.Key.{keyOutcome}
 use Rattle.idpf.specs.Reports.{seedAt}
 use Rattle.search.specs.Search.{Lent, lent}
-use Rattle.demands.specs.Honest.{Accepted, recordRead, listRead, Honest}
-use Rattle.demands.proofs.Pieces.{all-at}
-use Rattle.demands.proofs.Demand2.{honest-made}
+use Rattle.honest.specs.Honest.{Accepted, recordRead, listRead, Honest}
+use Rattle.honest.proofs.Pieces.{all-at}
+use Rattle.honest.proofs.Demand2.{honest-made}
 use Rattle.exam_text.specs.Sheet.{Line, Sheet, strings, expanderNumber, text, Within}
 use Rattle.exam_text.specs.Answer.{answerText}
 use Rattle.exam_text.specs.Printing.{printed}

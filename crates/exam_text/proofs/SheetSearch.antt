@@ -9,7 +9,7 @@ use lib.ListN.{length, drop}
 use Rattle.expander.specs.Expander.{isExpander}
 use Rattle.point.specs.PublicShare.{publicShareLength}
 use Rattle.search.specs.Search.{Lent}
-use Rattle.demands.specs.Honest.{Accepted, recordRead, listRead, Honest}
+use Rattle.honest.specs.Honest.{Accepted, recordRead, listRead, Honest}
 use Rattle.exam_text.specs.Sheet.{Line, strings}
 use Rattle.exam_text.specs.Reader.{areLines, afterFirstLine, isSheet, sheetOf}
 use Rattle.exam_text.specs.Answer.{answerText}

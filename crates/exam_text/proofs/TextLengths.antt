@@ -9,8 +9,8 @@ use mathlib.Core.Option.{Option, none, some}
 use borrow.Author.Tests.{lt-ltb}
 use lib.ListN.{length, length-append}
 use lib.Dec.{ltb}
-use Rattle.bits.specs.Lists.{All}
-use Rattle.tree.specs.Query.{OfLength}
+use Rattle.numbers.specs.Lists.{All}
+use Rattle.query.specs.Query.{OfLength}
 use Rattle.exam_text.specs.Characters.{glyph, decimalIn}
 use Rattle.exam_text.specs.Sheet.{Line, Sheet, strings, expanderNumber, lineText, linesText, expanderText, text, FiveDigits}
 use Rattle.exam_text.proofs.LinesText.{Seeds, line-length}

@@ -11,11 +11,11 @@ use borrow.Author.Tests.{leb-true}
 use lib.ListN.{length, getD, set, take, drop, length-drop, length-map, List·getD-eq-default, List·getD-map}
 use lib.Seq.{take-all, drop-nil, take-suc-set, append-snoc, getD-take, getD-drop, length-take-le, drop-drop}
 use lib.Dec.{leb, eqb}
-use Rattle.bits.specs.Lists.{digit}
+use Rattle.numbers.specs.Lists.{digit}
 use Rattle.bits.specs.Strings.{Bits}
 use Rattle.bits.specs.Packing.{packedLength, value, packIn, pack}
 use Rattle.bits.proofs.Packed.{value-nil}
-use Rattle.tree.proofs.Lists.{and-left, and-right}
+use Rattle.numbers.proofs.Lists.{and-left, and-right}
 use Rattle.exam_text.specs.Reader.{isDecimal, isHex, hexValue, areHex, bytesRead, bitsRead}
 use Rattle.exam_text.proofs.Decimals.{decimal-low, decimal-high}
 use Rattle.exam_text.proofs.LineFields.{or-cases}

@@ -3,9 +3,10 @@ use Prim.Native.Nat.{ℕ, zero, suc}
 use mathlib.Core.Bool.{Bool}
 use mathlib.Core.List.{List, [], _∷_, _++_}
 use lib.Dec.{leb}
-use Rattle.bits.specs.Lists.{select}
+use Rattle.numbers.specs.Lists.{select}
 use Rattle.bits.specs.Strings.{Bits, count}
-use Rattle.tree.specs.Search.{start, children, isKept}
+use Rattle.tree.specs.Search.{start, isKept}
+use Rattle.query.specs.Query.{children}
 use Rattle.tree.specs.Cut.{honestList}
 use Rattle.exam_text.specs.Characters.{space, newline, binary, decimal}
 use Rattle.exam_text.specs.Sheet.{Sheet, strings}

@@ -3,7 +3,7 @@ use Prim.Native.Nat.{ℕ, zero, suc, _+_, _/_, _%_}
 use mathlib.Core.Bool.{cond}
 use mathlib.Core.List.{List, [], _∷_, _++_}
 use lib.Dec.{ltb}
-use Rattle.bits.specs.Lists.{digit}
+use Rattle.numbers.specs.Lists.{digit}
 use Rattle.bits.specs.Strings.{Bits}
 
 -- what stands between two fields of a line, and what ends it

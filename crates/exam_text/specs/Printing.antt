@@ -6,9 +6,9 @@ use mathlib.Core.List.{List, [], _++_}
 use mathlib.Core.Logic.{_⊎_}
 use lib.ListN.{length, take, drop}
 use lib.Dec.{eqb}
-use Rattle.bits.specs.Numbers.{fromLittle}
+use Rattle.numbers.specs.Numbers.{fromLittle}
 use Rattle.bits.specs.Packing.{packedLength, unpack}
-use Rattle.tree.specs.Query.{prefixLength, prefixCount}
+use Rattle.query.specs.Query.{prefixLength, prefixCount}
 use Rattle.exam_text.specs.Answer.{prefixLine, heavyLine}
 
 -- the lines of c prefixes of k bits, packed one after the other in ps, whose totals are in ts

@@ -3,10 +3,10 @@ use Prim.Native.Nat.{ℕ, _≤_, _<_}
 use mathlib.Core.List.{List, [], _∷_, _++_, map}
 use mathlib.Core.Option.{Option, none, some}
 use lib.ListN.{length}
-use Rattle.bits.specs.Lists.{All}
+use Rattle.numbers.specs.Lists.{All}
 use Rattle.bits.specs.Strings.{Bits}
-use Rattle.bits.specs.Numbers.{Bytes}
-use Rattle.tree.specs.Query.{OfLength}
+use Rattle.numbers.specs.Numbers.{Bytes}
+use Rattle.query.specs.Query.{OfLength}
 use Rattle.exam_text.specs.Characters.{space, newline, binary, hexadecimal, decimal}
 
 -- One line of a sheet: an installation's string and its two root seeds.

@@ -1,14 +1,14 @@
 // The lines of an answer, and that of a refusal. Each function that writes at a place gives back the place behind what it wrote.
 use crate::decimal::put;
 use crate::decimal::write_decimal;
-use bits::numbers::copy;
-use bits::packing::bit_at;
+use bits::bit_at;
+use numbers::copy;
 ghost use mathlib.Core.Path.{_≡_};
 ghost use Prim.Native.Nat.{_+_, _≤_};
 ghost use lib.ListN.{length};
-ghost use Rattle.bits.specs.Lists.{digit};
+ghost use Rattle.numbers.specs.Lists.{digit};
 ghost use Rattle.bits.specs.Packing.{packedLength, unpack};
-ghost use Rattle.bits.specs.Places.{putAt, overlay};
+ghost use Rattle.numbers.specs.Places.{putAt, overlay};
 ghost use Rattle.exam_text.specs.Characters.{glyph, binary};
 ghost use Rattle.exam_text.specs.Answer.{prefixLine, heavyLine};
 ghost use Rattle.exam_text.specs.Exam.{refusedText};

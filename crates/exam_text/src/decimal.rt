@@ -3,7 +3,7 @@ ghost use mathlib.Core.Path.{_≡_};
 ghost use mathlib.Core.List.{[], _∷_};
 ghost use Prim.Native.Nat.{_+_, _≤_, _<_};
 ghost use lib.ListN.{length};
-ghost use Rattle.bits.specs.Places.{putAt};
+ghost use Rattle.numbers.specs.Places.{putAt};
 ghost use Rattle.exam_text.specs.Characters.{decimal};
 
 // The base in which numbers are printed.

@@ -1,5 +1,5 @@
 // The decimal fields of a first line: a number of one to five digits and the character behind it.
-use bits::numbers::byte_at;
+use numbers::byte_at;
 ghost use mathlib.Core.Path.{_≡_};
 ghost use mathlib.Core.Bool.{true};
 ghost use Prim.Native.Nat.{_+_, _-_, _≤_, _<_};

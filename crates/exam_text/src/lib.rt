@@ -6,7 +6,7 @@ use crate::solving::solve;
 use calls::Reply;
 ghost use mathlib.Core.Path.{_≡_};
 ghost use lib.ListN.{length};
-ghost use Rattle.bits.specs.Places.{overlay};
+ghost use Rattle.numbers.specs.Places.{overlay};
 ghost use Rattle.exam_text.specs.Exam.{examOutcome, refusedOutcome, respondOutcome};
 
 mod answer_lines;

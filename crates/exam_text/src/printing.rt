@@ -1,17 +1,17 @@
 // A search's record and list as text. Each function that writes at a place gives back the place behind what it wrote.
 use crate::answer_lines::write_heavy_line;
 use crate::answer_lines::write_prefix_line;
-use bits::numbers::read_le8;
-use bits::packing::packed_length;
+use bits::packed_length;
+use numbers::read_le8;
 use query::prefix_count;
 use query::prefix_length;
 ghost use mathlib.Core.Path.{_≡_};
 ghost use Prim.Native.Nat.{_+_, _*_, _/_, _≤_};
 ghost use lib.ListN.{length, take, drop};
-ghost use Rattle.bits.specs.Numbers.{fromLittle};
+ghost use Rattle.numbers.specs.Numbers.{fromLittle};
 ghost use Rattle.bits.specs.Packing.{packedLength, unpack};
-ghost use Rattle.bits.specs.Places.{putAt, overlay};
-ghost use Rattle.tree.specs.Query.{prefixLength, prefixCount};
+ghost use Rattle.numbers.specs.Places.{putAt, overlay};
+ghost use Rattle.query.specs.Query.{prefixLength, prefixCount};
 ghost use Rattle.exam_text.specs.Answer.{prefixLine, heavyLine};
 ghost use Rattle.exam_text.specs.Printing.{entryLines, queryLength, roundLength, recordLines, listLines, printed, Rounds};
 

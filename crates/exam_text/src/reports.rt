@@ -1,21 +1,21 @@
 // The reports of a sheet: for each line its two root seeds, and the public share that the key maker gives for its string.
 use crate::reading::read_seed;
 use crate::reading::read_string;
-use bits::numbers::write16;
-use bits::packing::packed_length;
+use bits::packed_length;
 use nodes::public_share_length;
+use numbers::write16;
 ghost use mathlib.Core.Path.{_≡_};
 ghost use mathlib.Core.Bool.{true};
 ghost use mathlib.Core.List.{List, map};
 ghost use Prim.Native.Nat.{ℕ, _+_, _*_, _≤_};
 ghost use lib.ListN.{length, take, drop};
 ghost use Rattle.bits.specs.Packing.{pack};
-ghost use Rattle.bits.specs.Places.{putAt};
+ghost use Rattle.numbers.specs.Places.{putAt};
 ghost use Rattle.expander.specs.Expander.{isExpander};
 ghost use Rattle.point.specs.PublicShare.{publicShareLength};
 ghost use Rattle.keymaker.specs.Key.{keyOutcome};
 ghost use Rattle.search.specs.Search.{lent};
-ghost use Rattle.demands.specs.Honest.{Honest};
+ghost use Rattle.honest.specs.Honest.{Honest};
 ghost use Rattle.exam_text.specs.Reader.{areHex, lineLength, lineOf, areLines, linesOf};
 
 // The public share of a packed string of n bits into the places from `at` on.

@@ -1,20 +1,20 @@
 // The search of a sheet, and its answer.
 use crate::printing::print;
 use crate::reports::write_reports;
-use bits::numbers::copy;
 use calls::Reply;
 use nodes::public_share_length;
+use numbers::copy;
 ghost use mathlib.Core.Path.{_≡_};
 ghost use mathlib.Core.Bool.{true};
 ghost use mathlib.Core.List.{[], _∷_};
 ghost use Prim.Native.Nat.{_≤_};
 ghost use lib.ListN.{length, drop};
 ghost use lib.Dec.{ltb};
-ghost use Rattle.bits.specs.Places.{overlay};
+ghost use Rattle.numbers.specs.Places.{overlay};
 ghost use Rattle.calls.specs.Causes.{cause, judged};
 ghost use Rattle.expander.specs.Expander.{isExpander};
 ghost use Rattle.search.specs.Search.{lent};
-ghost use Rattle.demands.specs.Honest.{Accepted, recordRead, listRead};
+ghost use Rattle.honest.specs.Honest.{Accepted, recordRead, listRead};
 ghost use Rattle.exam_text.specs.Reader.{isSheet, sheetOf, afterFirstLine};
 ghost use Rattle.exam_text.specs.Answer.{answerText};
 ghost use Rattle.exam_text.specs.Printing.{printed, Rounds};

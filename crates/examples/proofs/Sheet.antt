@@ -8,11 +8,11 @@ use native.Mathlib.Omega.{arith}
 use lib.ListN.{length}
 use borrow.Author.Tests.{le-ltb}
 use lib.Dec.{ltb}
-use Rattle.bits.specs.Lists.{All}
+use Rattle.numbers.specs.Lists.{All}
 use Rattle.bits.specs.Strings.{Bits}
-use Rattle.bits.specs.Numbers.{little, fromLittle, big, fromBig}
+use Rattle.numbers.specs.Numbers.{little, fromLittle, big, fromBig}
 use Rattle.bits.specs.Packing.{value, packIn, pack, digits, bitsOf, unpack, spareZero}
-use Rattle.bits.specs.Places.{window, putAt}
+use Rattle.numbers.specs.Places.{window, putAt}
 use Rattle.calls.specs.Bounds.{lengthOutside, thresholdOutside}
 use Rattle.calls.specs.Causes.{accepted}
 use Rattle.calls.proofs.Judged.{_&_}
@@ -23,7 +23,7 @@ use Rattle.point.specs.Keys.{seedCorrection, leftCorrection, rightCorrection, k
 use Rattle.point.specs.Share.{descend, correctedPayload, shareBelow, node, share}
 use Rattle.point.specs.PublicShare.{joined, lowestFirst, levelBit, controlByte, levelBytes, publicShare, binaryDigit, readCorrection, every, payloadsBelow, spareBitsZero}
 use Rattle.point.specs.Instance.{fieldScheme}
-use Rattle.tree.specs.Query.{packs, query, parts, sparesZero, isAscending, isQuery}
+use Rattle.query.specs.Query.{packs, query, parts, sparesZero, isAscending, isQuery}
 use Rattle.tree.specs.Search.{heading, searchRecord, searchList}
 use Rattle.tree.specs.Cut.{honestRecord, honestList, cut}
 use Rattle.keymaker.specs.Key.{keyBytes, keyOutcome}
@@ -36,8 +36,8 @@ use Rattle.exam_text.specs.Answer.{heavyLines, prefixLines, queriedFrom, answer
 use Rattle.exam_text.proofs.Exam.{sheet-outcome}
 use Rattle.exam_text.proofs.SameAnswer.{same-answer}
 use Rattle.examples.specs.Sheet.{Holds, searchOf, numberWith, outputOf, table, s01, s11}
-use Rattle.demands.proofs.Counted.{accepted-record, accepted-list}
-use Rattle.demands.proofs.Accepting.{listed-number}
+use Rattle.honest.proofs.Counted.{accepted-record, accepted-list}
+use Rattle.honest.proofs.Accepting.{listed-number}
 
 -- Naming `keys` on an `unfolding` line opens every definition that a key and a share run through.
 keys : Unit {0}

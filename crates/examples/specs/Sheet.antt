@@ -6,20 +6,20 @@ use mathlib.Core.List.{List, [], _∷_, _++_}
 use mathlib.Core.Option.{Option, some}
 use lib.ListN.{length, replicate}
 use Rattle.bits.specs.Strings.{Bits}
-use Rattle.bits.specs.Numbers.{little, fromLittle}
+use Rattle.numbers.specs.Numbers.{little, fromLittle}
 use Rattle.bits.specs.Packing.{pack}
-use Rattle.bits.specs.Places.{putAt}
+use Rattle.numbers.specs.Places.{putAt}
 use Rattle.calls.specs.Causes.{Outcome, accepted}
 use Rattle.expander.specs.Expander.{isExpander}
 use Rattle.group.specs.Modular.{p}
 use Rattle.point.specs.PublicShare.{publicShareLength, levelStart}
-use Rattle.tree.specs.Query.{packs, query}
+use Rattle.query.specs.Query.{packs, query}
 use Rattle.tree.specs.Cut.{cuts}
 use Rattle.tree.specs.Space.{listSpace}
 use Rattle.keymaker.specs.Key.{keyOutcome}
 use Rattle.idpf.specs.Share.{shareOutcome}
 use Rattle.search.specs.Search.{Lent, searchNumber}
-use Rattle.demands.specs.Honest.{Accepted, recordRead, listRead, Honest}
+use Rattle.honest.specs.Honest.{Accepted, recordRead, listRead, Honest}
 use Rattle.exam_text.specs.Sheet.{Sheet, strings, text, Within}
 use Rattle.exam_text.specs.Exam.{output}
 

@@ -6,10 +6,10 @@ use native.Mathlib.Nat.{div-eq-of-lt, mod-add-mod}
 use native.Mathlib.Omega.{arith}
 use lib.ListN.{length, take, drop, replicate, length-drop}
 use lib.Seq.{take-all}
-use Rattle.bits.specs.Numbers.{little, fromLittle, big}
-use Rattle.bits.specs.Places.{window, putAt}
-use Rattle.bits.proofs.Endian.{big-append}
-use Rattle.bits.proofs.Places.{window-inside}
+use Rattle.numbers.specs.Numbers.{little, fromLittle, big}
+use Rattle.numbers.specs.Places.{window, putAt}
+use Rattle.numbers.proofs.Endian.{big-append}
+use Rattle.numbers.proofs.Places.{window-inside}
 use Rattle.expander.specs.Expander.{classroomBlock}
 
 -- sixteen zeros with two words written over them

@@ -5,7 +5,7 @@ use mathlib.Core.List.{List, [], _∷_, _++_}
 use lib.ListN.{take, drop}
 use lib.Bits.{bitXor}
 use lib.Dec.{eqb}
-use Rattle.bits.specs.Numbers.{little, fromLittle, big}
+use Rattle.numbers.specs.Numbers.{little, fromLittle, big}
 use Rattle.aes.specs.Fips197.{cipher}
 use Rattle.expander.specs.declared.Expander.{Expander}
 use Rattle.expander.specs.declared.Expander.the-variants.{Aes, Classroom}

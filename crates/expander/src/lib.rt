@@ -1,12 +1,12 @@
 // Expanders: block j of a seed of 16 bytes, and the XOR of two seeds.
-use bits::numbers::read_le8;
-use bits::numbers::write_be8;
-use bits::numbers::write_le8;
+use numbers::read_le8;
+use numbers::write_be8;
+use numbers::write_le8;
 use std::num::wrapping_add_u64;
 ghost use mathlib.Core.Path.{_≡_};
 ghost use Prim.Native.Nat.{_+_, _^_};
 ghost use mathlib.Core.List.{_++_};
-ghost use Rattle.bits.specs.Numbers.{big, little};
+ghost use Rattle.numbers.specs.Numbers.{big, little};
 ghost use Rattle.expander.specs.Expander.{blockOf, classroomBlock, isExpander, choiceOf, xorBytes};
 
 // Expander 1 is AES-128; expander 2, for the classroom, hides nothing.

@@ -7,9 +7,9 @@ use native.Mathlib.Nat.{div-zero, div-add-mod, min-zero, min-eq-left, min-eq-rig
 use native.Mathlib.Numerals.{add-one}
 use native.Mathlib.Omega.{arith}
 use lib.ListN.{length, getD, take, drop}
-use Rattle.bits.specs.Numbers.{Bytes}
-use Rattle.bits.specs.Places.{window}
-use Rattle.bits.proofs.Places.{window-inside, window-bytes}
+use Rattle.numbers.specs.Numbers.{Bytes}
+use Rattle.numbers.specs.Places.{window}
+use Rattle.numbers.proofs.Places.{window-inside, window-bytes}
 use Rattle.expander.specs.declared.Expander.{Expander}
 use Rattle.group.specs.Modular.{field}
 use Rattle.point.specs.Share.{share}

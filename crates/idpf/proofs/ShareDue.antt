@@ -19,8 +19,8 @@ use Rattle.group.specs.Modular.{p}
 use Rattle.point.specs.PublicShare.{publicShareLength, readCorrection, payloadsBelow, spareBitsZero}
 use Rattle.point.proofs.Joined.{every-false, every-fails}
 use Rattle.point.proofs.PublicShare.{spare-set}
-use Rattle.tree.specs.Query.{isQuery, prefixCount}
-use Rattle.tree.proofs.Queries.{query-exact}
+use Rattle.query.specs.Query.{isQuery, prefixCount}
+use Rattle.query.proofs.Queries.{query-exact}
 use Rattle.idpf.specs.Reports.{reportCount, publicShareAt}
 use Rattle.idpf.specs.Share.{WrongLengths, wrongLengths, PayloadTooLarge, payloadTooLarge, SpareBitsSet, spareBitsSet, shareClauses, shareOutcome}
 use Rattle.idpf.proofs.Lent.{share-bytes}

@@ -8,7 +8,7 @@ use mathlib.Core.List.{List, []}
 use borrow.Author.Tests.{eqb-true, lt-ltb, le-ltb, ltb-false, not-false}
 use lib.ListN.{length, getD, drop, length-map}
 use lib.Dec.{eqb, ltb}
-use Rattle.bits.specs.Lists.{All}
+use Rattle.numbers.specs.Lists.{All}
 use Rattle.bits.specs.Strings.{Bits}
 use Rattle.bits.specs.Packing.{packedLength, unpack}
 use Rattle.calls.specs.Bounds.{lengthOutside, mostReports}
@@ -25,8 +25,8 @@ use Rattle.point.specs.Share.{bitOf}
 use Rattle.point.specs.PublicShare.{publicShare, publicShareLength, payloadsBelow, spareBitsZero, Wellformed}
 use Rattle.point.proofs.PublicShare.{public-exactly}
 use Rattle.point.proofs.Joined.{every-at}
-use Rattle.tree.specs.Query.{prefixLength, prefixCount, packedPrefixes, prefixesOf, isQuery}
-use Rattle.tree.proofs.Queries.{parts-length}
+use Rattle.query.specs.Query.{prefixLength, prefixCount, packedPrefixes, prefixesOf, isQuery}
+use Rattle.query.proofs.Queries.{parts-length}
 use Rattle.tree.proofs.Lengths.{totals-length}
 use Rattle.idpf.specs.Reports.{reportCount, publicShareAt, serverSum}
 use Rattle.idpf.specs.Share.{wrongLengths, payloadTooLarge, spareBitsSet, shareCauses, shareBytes, shareOutcome}

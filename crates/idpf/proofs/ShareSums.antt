@@ -8,15 +8,15 @@ use mathlib.Core.List.{List, [], _++_}
 use lib.ListN.{length, getD, drop, drop-of-length-le}
 use lib.Seq.{drop-cons}
 use Rattle.bits.specs.Strings.{Bits}
-use Rattle.bits.specs.Numbers.{little}
+use Rattle.numbers.specs.Numbers.{little}
 use Rattle.bits.specs.Packing.{unpack}
-use Rattle.bits.specs.Places.{putAt, overlay}
-use Rattle.bits.proofs.Endian.{little-length}
+use Rattle.numbers.specs.Places.{putAt, overlay}
+use Rattle.numbers.proofs.Endian.{little-length}
 use Rattle.bits.proofs.Packed.{unpack-length}
-use Rattle.bits.proofs.Places.{putAt-length, putAt-overlay, Grown, grown-start, grown-more, grown-end}
+use Rattle.numbers.proofs.Places.{putAt-length, putAt-overlay, Grown, grown-start, grown-more, grown-end}
 use Rattle.expander.specs.declared.Expander.{Expander}
 use Rattle.point.specs.Share.{bitOf}
-use Rattle.tree.specs.Query.{prefixLength, prefixCount, prefixesOf, isQuery}
+use Rattle.query.specs.Query.{prefixLength, prefixCount, prefixesOf, isQuery}
 use Rattle.tree.specs.Search.{totals}
 use Rattle.query.specs.Prefix.{packedPrefix}
 use Rattle.query.proofs.Ready.{prefix-size, prefix-unpack}

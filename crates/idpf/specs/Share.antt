@@ -15,7 +15,7 @@ use Rattle.expander.specs.declared.Expander.{Expander}
 use Rattle.group.specs.Modular.{p}
 use Rattle.point.specs.Share.{bitOf}
 use Rattle.point.specs.PublicShare.{controlBytes, publicShareLength, binaryDigit, readCorrection, every, payloadsBelow, spareBitsZero}
-use Rattle.tree.specs.Query.{IsQuery, isQuery, prefixCount, prefixesOf}
+use Rattle.query.specs.Query.{IsQuery, isQuery, prefixCount, prefixesOf}
 use Rattle.tree.specs.Search.{totals}
 use Rattle.idpf.specs.Reports.{reportCount, publicShareAt, serverSum}
 

@@ -34,7 +34,7 @@ pub(crate) fn spare_bits_zero(n: u16, share: &[u8]) -> bool
     if m % 4 == 0 {
         return true;
     }
-    bits::numbers::byte_at(share, m / 4) >> (2 * (m % 4)) == 0
+    numbers::byte_at(share, m / 4) >> (2 * (m % 4)) == 0
 }
 
 // The payload test of the public share that starts at place `at`.

@@ -33,7 +33,7 @@ fn same_parent(first: &[u8], second: &[u8], k: u16) -> bool
     let mut from = (k - 1) as usize;
     while 0 < from {
         from -= 1;
-        if bits::packing::bit_at(first, from) != bits::packing::bit_at(second, from) {
+        if bits::bit_at(first, from) != bits::bit_at(second, from) {
             return false;
         }
     }
@@ -59,8 +59,8 @@ fn shares_below(
     let m = node_at(e, n, bytes, seed, b, first, up);
     let level = read_level(bytes, n, up);
     let word = level.word;
-    let x = bits::packing::bit_at(first, up as usize);
-    let y = bits::packing::bit_at(second, up as usize);
+    let x = bits::bit_at(first, up as usize);
+    let y = bits::bit_at(second, up as usize);
     Sums {
         first: share_below(e, b, word, x, m),
         second: share_below(e, b, word, y, m),
@@ -87,7 +87,7 @@ fn lent_shares(
     let length = public_share_length(n);
     let start = length * i;
     let end = start + length;
-    let seed = bits::numbers::read16(seeds, 16 * i);
+    let seed = numbers::read16(seeds, 16 * i);
     shares_below(e, n, &shares[start..end], seed, b, first, second, k)
 }
 

@@ -25,13 +25,13 @@ fn read_correction(bytes: &[u8], n: u16, k: u16) -> Correction
 {
     let level = k as usize;
     let start = level_start(n, k);
-    let control = bits::numbers::byte_at(bytes, level / 4);
+    let control = numbers::byte_at(bytes, level / 4);
     let place = 2 * (level % 4);
     Correction {
-        seed: bits::numbers::read16(bytes, start),
+        seed: numbers::read16(bytes, start),
         left: (control >> place) % 2 == 1,
         right: (control >> (place + 1)) % 2 == 1,
-        payload: bits::numbers::read_le8(bytes, start + 16),
+        payload: numbers::read_le8(bytes, start + 16),
     }
 }
 

@@ -41,7 +41,7 @@ fn lent_share(
     let length = public_share_length(n);
     let start = length * i;
     let end = start + length;
-    let seed = bits::numbers::read16(seeds, 16 * i);
+    let seed = numbers::read16(seeds, 16 * i);
     share_at(e, n, &shares[start..end], seed, b, prefix, k)
 }
 

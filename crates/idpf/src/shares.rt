@@ -12,10 +12,10 @@ ghost use mathlib.Core.Bool.{true};
 ghost use mathlib.Core.List.{[]};
 ghost use Prim.Native.Nat.{_+_, _*_, _≤_, _<_};
 ghost use lib.ListN.{length};
-ghost use Rattle.bits.specs.Numbers.{little};
-ghost use Rattle.bits.specs.Places.{putAt, overlay};
+ghost use Rattle.numbers.specs.Numbers.{little};
+ghost use Rattle.numbers.specs.Places.{putAt, overlay};
 ghost use Rattle.calls.specs.Causes.{judged};
-ghost use Rattle.tree.specs.Query.{isQuery, prefixCount};
+ghost use Rattle.query.specs.Query.{isQuery, prefixCount};
 ghost use Rattle.query.specs.Prefix.{packedPrefix};
 ghost use Rattle.idpf.specs.Reports.{packedBit, serverSum};
 ghost use Rattle.idpf.specs.Share.{wrongLengths, shareCauses, shareBytes, shareOutcome};
@@ -93,7 +93,7 @@ fn write_sum(
     ensures { λ _. ⌜ now (out .exit) ≡ putAt (now (out .entry)) (8 * i) (little 8 (serverSum e n server (now (seeds .entry)) (now (shares .entry)) (packedBit (packedPrefix (now (query .entry)) i)) k)) ⌝ }
 {
     let sum = server_sum(e, n, server, seeds, shares, query::prefix_at(query, i), k);
-    bits::numbers::write_le8(out, 8 * i, sum);
+    numbers::write_le8(out, 8 * i, sum);
 }
 
 // The sums at prefixes i and i + 1 of the query, of k bits, into their 16 places.
@@ -115,8 +115,8 @@ fn write_sum_pair(
     let first = query::prefix_at(query, i);
     let second = query::prefix_at(query, next);
     let sums = server_sums(e, n, server, seeds, shares, first, second, k);
-    bits::numbers::write_le8(out, 8 * i, sums.first);
-    bits::numbers::write_le8(out, 8 * next, sums.second);
+    numbers::write_le8(out, 8 * i, sums.first);
+    numbers::write_le8(out, 8 * next, sums.second);
 }
 
 // The sums at all prefixes of the query, in order, two at a time.

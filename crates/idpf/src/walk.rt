@@ -83,7 +83,7 @@ pub(crate) fn node_at(
     let m = node_at(e, n, bytes, seed, b, prefix, up);
     let level = read_level(bytes, n, up);
     let word = level.word;
-    descend(e, word, bits::packing::bit_at(prefix, up as usize), m)
+    descend(e, word, bits::bit_at(prefix, up as usize), m)
 }
 
 // Server b's share at the first k bits of a packed prefix, from its root seed; 0 at the empty prefix.
@@ -105,5 +105,5 @@ pub(crate) fn share_at(
     let m = node_at(e, n, bytes, seed, b, prefix, up);
     let level = read_level(bytes, n, up);
     let word = level.word;
-    share_below(e, b, word, bits::packing::bit_at(prefix, up as usize), m)
+    share_below(e, b, word, bits::bit_at(prefix, up as usize), m)
 }

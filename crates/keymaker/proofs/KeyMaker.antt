@@ -7,10 +7,10 @@ use native.Mathlib.Numerals.{add-one}
 use native.Mathlib.Omega.{arith}
 use lib.ListN.{length, getD, set}
 use lib.Seq.{getD-take}
-use Rattle.bits.specs.Lists.{digit}
-use Rattle.bits.specs.Numbers.{Bytes}
+use Rattle.numbers.specs.Lists.{digit}
+use Rattle.numbers.specs.Numbers.{Bytes}
 use Rattle.bits.specs.Packing.{bitsOf, unpack}
-use Rattle.bits.specs.Places.{putAt, overlay}
+use Rattle.numbers.specs.Places.{putAt, overlay}
 use Rattle.expander.specs.declared.Expander.{Expander}
 use Rattle.point.specs.Node.{Node, final}
 use Rattle.point.specs.Correction.{Correction}

@@ -6,7 +6,7 @@ use Prim.Native.Nat.{ℕ, _<_}
 use native.Mathlib.Omega.{arith}
 use lib.ListN.{length, getD}
 use lib.Dec.{eqb, ltb, ltb→lt, lt→ltb}
-use Rattle.bits.specs.Numbers.{Bytes}
+use Rattle.numbers.specs.Numbers.{Bytes}
 use Rattle.bits.specs.Packing.{packedLength, unpack, spareZero}
 use Rattle.bits.proofs.Packed.{unpack-length}
 use Rattle.bits.proofs.Spare.{spare-set}

@@ -3,7 +3,7 @@ use expander::Expander;
 ghost use mathlib.Core.Path.{_≡_};
 ghost use Prim.Native.Nat.{_%_, _<_};
 ghost use lib.ListN.{take};
-ghost use Rattle.bits.specs.Numbers.{fromLittle};
+ghost use Rattle.numbers.specs.Numbers.{fromLittle};
 ghost use Rattle.group.specs.Modular.{p};
 ghost use Rattle.point.specs.Instance.{scheme};
 ghost use Rattle.point.specs.Node.{controlBit, cleared, child};
@@ -66,7 +66,7 @@ pub fn corrected(on: bool, seed: [u8; 16], bit: bool, m: Node) -> Node
 pub fn draw(block: [u8; 16]) -> u64
     ensures { λ r. ⌜ (r ≡ fromLittle (take 8 block) % p) × (r < p) ⌝ }
 {
-    group::reduce(bits::numbers::read_le8(&block, 0))
+    group::reduce(numbers::read_le8(&block, 0))
 }
 
 // How many bytes the public share of n levels takes.

@@ -5,7 +5,7 @@ use mathlib.Core.Bool.{Bool, true, false, cond, not, xor, Bool·beq, _&&_}
 use mathlib.Core.List.{List}
 use Prim.Native.Nat.{ℕ, zero, suc}
 use lib.ListN.{length}
-use Rattle.bits.specs.Numbers.{Bytes}
+use Rattle.numbers.specs.Numbers.{Bytes}
 use Rattle.group.proofs.Laws.{masked}
 use Rattle.expander.specs.Expander.{xorBytes}
 use Rattle.expander.proofs.Sums.{xorBytes-cancel, xorBytes-cancel′, xorBytes-bytes}

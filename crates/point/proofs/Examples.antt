@@ -5,8 +5,8 @@ use mathlib.Core.Bool.{Bool, true, false, xor}
 use mathlib.Core.List.{List, [], _∷_, _++_}
 use Prim.Native.Nat.{ℕ, _+_, _-_, _*_, _/_, _^_}
 use lib.ListN.{replicate}
-use Rattle.bits.specs.Numbers.{little, fromLittle}
-use Rattle.bits.specs.Places.{window}
+use Rattle.numbers.specs.Numbers.{little, fromLittle}
+use Rattle.numbers.specs.Places.{window}
 use Rattle.bits.specs.Strings.{Bits}
 use Rattle.group.specs.Modular.{p}
 use Rattle.expander.specs.Expander.{classroomBlock, xorBytes}

@@ -6,8 +6,8 @@ use Prim.Native.Nat.{ℕ, _+_, _%_, _^_, _<_, _≤_}
 use native.Mathlib.Nat.{mod-lt}
 use native.Mathlib.Omega.{arith}
 use lib.ListN.{length}
-use Rattle.bits.specs.Numbers.{Bytes}
-use Rattle.bits.specs.Lists.{All}
+use Rattle.numbers.specs.Numbers.{Bytes}
+use Rattle.numbers.specs.Lists.{All}
 use Rattle.bits.specs.Strings.{Bits, isPrefix, count}
 use Rattle.group.specs.Modular.{p}
 use Rattle.group.proofs.Modular.{field-laws}

@@ -3,7 +3,7 @@ use mathlib.Core.Bool.{Bool, true, false}
 use mathlib.Core.List.{List, [], _∷_}
 use Prim.Native.Nat.{ℕ, zero, suc}
 use native.Mathlib.Omega.{arith}
-use Rattle.bits.specs.Numbers.{Bytes}
+use Rattle.numbers.specs.Numbers.{Bytes}
 use Rattle.expander.proofs.Sums.{xorBytes-bytes}
 use Rattle.point.specs.Scheme.{Scheme, Lawful}
 use Rattle.point.specs.Node.{Node, cleared, child, final}

@@ -2,7 +2,7 @@
 use Prim.Native.Nat.{ℕ, _%_}
 use mathlib.Core.List.{List}
 use lib.ListN.{take}
-use Rattle.bits.specs.Numbers.{fromLittle}
+use Rattle.numbers.specs.Numbers.{fromLittle}
 use Rattle.group.specs.Modular.{p, field}
 use Rattle.expander.specs.Expander.{blockOf}
 use Rattle.expander.specs.declared.Expander.{Expander}

@@ -8,7 +8,7 @@ use borrow.Author.Tests.{le-leb, lt-leb, eq-eqb, ne-eqb}
 use lib.ListN.{length, drop}
 use lib.Dec.{leb, eqb}
 use Rattle.bits.specs.Packing.{packedLength, unpack}
-use Rattle.tree.specs.Query.{limit, prefixLength, prefixCount, parts, sparesZero, isAscending, isQuery}
+use Rattle.query.specs.Query.{limit, prefixLength, prefixCount, parts, sparesZero, isAscending, isQuery}
 
 -- the bytes of all prefixes are few enough to be counted
 pub few-bytes : (m w : ℕ) → m ≤ limit → w ≤ 8192 → m * w ≤ 1073725440

@@ -12,12 +12,12 @@ use borrow.Author.Tests.{eqb-true, eqb-false}
 use lib.ListN.{length, getD, set, take, length-append}
 use lib.Seq.{length-take-le, take-all, take-length, take-suc, take-append-le, take-append-add, set-set}
 use lib.Dec.{eqb}
-use Rattle.bits.specs.Lists.{digit}
+use Rattle.numbers.specs.Lists.{digit}
 use Rattle.bits.specs.Strings.{Bits, _▹_}
 use Rattle.bits.specs.Packing.{packedLength, value, packIn, pack, digits, bitsOf, unpack}
-use Rattle.bits.specs.Places.{putAt}
-use Rattle.bits.proofs.Places.{putAt-outside, putAt-length, putAt-more}
-use Rattle.bits.proofs.Straight.{stored}
+use Rattle.numbers.specs.Places.{putAt}
+use Rattle.numbers.proofs.Places.{putAt-outside, putAt-length, putAt-more}
+use Rattle.numbers.proofs.Straight.{stored}
 use Rattle.bits.proofs.Packed.{value-nil, digits-length, bitsOf-length, pack-length}
 use Rattle.bits.proofs.Append.{append-length}
 

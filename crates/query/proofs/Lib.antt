@@ -1,5 +1,8 @@
+pub mod Children
+pub mod Queries
 pub mod Parts
 pub mod Place
 pub mod Check
 pub mod Ready
 pub mod Child
+pub mod Examples

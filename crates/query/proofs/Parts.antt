@@ -7,12 +7,12 @@ use mathlib.Core.Bool.{Bool, true, false, _&&_}
 use mathlib.Core.List.{List, _∷_, map}
 use lib.ListN.{length, getD, take, drop}
 use lib.Seq.{drop-drop}
-use Rattle.bits.specs.Numbers.{Bytes}
+use Rattle.numbers.specs.Numbers.{Bytes}
 use Rattle.bits.specs.Packing.{packedLength, unpack, spareZero, bytesBefore}
-use Rattle.bits.proofs.Places.{window-inside, window-bytes}
-use Rattle.tree.specs.Query.{parts, sparesZero, isAscending}
-use Rattle.tree.proofs.Lists.{and-left, and-right}
-use Rattle.tree.proofs.Queries.{before-unpack}
+use Rattle.numbers.proofs.Places.{window-inside, window-bytes}
+use Rattle.query.specs.Query.{parts, sparesZero, isAscending}
+use Rattle.numbers.proofs.Lists.{and-left, and-right}
+use Rattle.query.proofs.Queries.{before-unpack}
 
 -- m parts are one and m - 1
 pub peel : (m w : ℕ) → 0 < m → m * w ≡ w + (m - 1) * w

@@ -7,7 +7,7 @@ use mathlib.Core.List.{List, []}
 use borrow.Author.Tests.{le-leb, lt-leb}
 use lib.ListN.{length, take, drop}
 use Rattle.bits.specs.Packing.{packedLength}
-use Rattle.tree.specs.Query.{prefixLength}
+use Rattle.query.specs.Query.{prefixLength}
 use Rattle.query.specs.Prefix.{part, packedPrefix}
 
 -- where k bytes hold more than i parts, part i ends within them

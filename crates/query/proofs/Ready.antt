@@ -9,13 +9,13 @@ use borrow.Author.Tests.{leb-true, eqb-true}
 use lib.ListN.{length, getD, take, drop}
 use lib.Seq.{drop-drop}
 use lib.Dec.{leb, eqb}
-use Rattle.bits.specs.Numbers.{Bytes}
+use Rattle.numbers.specs.Numbers.{Bytes}
 use Rattle.bits.specs.Packing.{packedLength, pack, unpack, spareZero}
-use Rattle.bits.proofs.Places.{window-inside, window-length}
+use Rattle.numbers.proofs.Places.{window-inside, window-length}
 use Rattle.bits.proofs.Packed.{pack-unpack}
-use Rattle.tree.specs.Query.{limit, prefixLength, prefixCount, parts, packedPrefixes, prefixesOf, sparesZero, isAscending, isQuery}
-use Rattle.tree.proofs.Lists.{and-left, and-right}
-use Rattle.tree.proofs.Queries.{parts-length, prefix-at}
+use Rattle.query.specs.Query.{limit, prefixLength, prefixCount, parts, packedPrefixes, prefixesOf, sparesZero, isAscending, isQuery}
+use Rattle.numbers.proofs.Lists.{and-left, and-right}
+use Rattle.query.proofs.Queries.{parts-length, prefix-at}
 use Rattle.query.specs.Prefix.{packedPrefix}
 use Rattle.query.proofs.Parts.{part-bytes}
 use Rattle.query.proofs.Place.{prefix-inside}

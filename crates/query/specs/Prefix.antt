@@ -5,7 +5,7 @@ use mathlib.Core.List.{List, []}
 use lib.ListN.{length, take, drop}
 use lib.Dec.{leb}
 use Rattle.bits.specs.Packing.{packedLength}
-use Rattle.tree.specs.Query.{prefixLength}
+use Rattle.query.specs.Query.{prefixLength}
 
 -- the w bytes from place `at` on; no bytes where the list does not hold them all
 unfoldable pub part : ℕ → ℕ → List ℕ → List ℕ

@@ -5,7 +5,7 @@ ghost use mathlib.Core.List.{map};
 ghost use Prim.Native.Nat.{_+_, _*_, _≤_, _<_};
 ghost use lib.ListN.{length, take, drop};
 ghost use Rattle.bits.specs.Packing.{packedLength, unpack, spareZero, bytesBefore};
-ghost use Rattle.tree.specs.Query.{prefixLength, prefixCount, parts, sparesZero, isAscending, isQuery};
+ghost use Rattle.query.specs.Query.{prefixLength, prefixCount, parts, sparesZero, isAscending, isQuery};
 ghost use Rattle.query.specs.Prefix.{packedPrefix};
 
 mod writing;
@@ -17,21 +17,21 @@ pub use writing::write_heading;
 pub fn prefix_length(q: &[u8]) -> usize
     ensures { λ r. ⌜ (r ≡ prefixLength (now (q .entry))) × (1 ≤ r) × (r ≤ 65536) ⌝ }
 {
-    bits::numbers::read_be2(q, 0) as usize + 1
+    numbers::read_be2(q, 0) as usize + 1
 }
 
 // How many prefixes a query says it has.
 pub fn prefix_count(q: &[u8]) -> usize
     ensures { λ r. ⌜ (r ≡ prefixCount (now (q .entry))) × (r < 4294967296) ⌝ }
 {
-    bits::numbers::read_be4(q, 2) as usize
+    numbers::read_be4(q, 2) as usize
 }
 
 // Prefix i, packed, as a part of the query.
 pub fn prefix_at(q: &[u8], i: usize) -> &[u8]
     ensures { λ r. ⌜ now r ≡ packedPrefix (now (q .entry)) i ⌝ }
 {
-    let w = bits::packing::packed_length(prefix_length(q));
+    let w = bits::packed_length(prefix_length(q));
     if q.len() < 6 {
         return &q[..0];
     }
@@ -49,7 +49,7 @@ fn spare_zero_at(q: &[u8], len: usize, w: usize, at: usize) -> bool
     ensures { λ r. ⌜ r ≡ spareZero len (take w (drop at (now (q .entry)))) ⌝ }
 {
     let end = at + w;
-    bits::packing::spare_zero(&q[at..end], len)
+    bits::spare_zero(&q[at..end], len)
 }
 
 // Whether the spare bits of each of `count` prefixes of len bits, w bytes each, are zero.
@@ -76,7 +76,7 @@ fn before_next(q: &[u8], w: usize, at: usize) -> bool
 {
     let middle = at + w;
     let end = middle + w;
-    bits::packing::before(&q[at..middle], &q[middle..end])
+    bits::before(&q[at..middle], &q[middle..end])
 }
 
 // Whether each of `count` prefixes of len bits, w bytes each and without spare bits, stands before the next.
@@ -111,7 +111,7 @@ pub fn is_query(n: u64, q: &[u8]) -> bool
     if 131070 < count {
         return false;
     }
-    let w = bits::packing::packed_length(len);
+    let w = bits::packed_length(len);
     if q.len() != 6 + count * w {
         return false;
     }

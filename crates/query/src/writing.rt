@@ -1,23 +1,14 @@
 // Queries as they are written: the heading, and the children of a prefix. What does not fit is not written at all.
+use numbers::wide;
+use numbers::within;
 ghost use mathlib.Core.Path.{_≡_};
 ghost use mathlib.Core.List.{_++_};
 ghost use Prim.Native.Nat.{_+_, _*_, _<_};
 ghost use lib.ListN.{length, take};
-ghost use lib.Dec.{leb};
 ghost use Rattle.bits.specs.Strings.{_▹_};
-ghost use Rattle.bits.specs.Numbers.{big};
+ghost use Rattle.numbers.specs.Numbers.{big};
 ghost use Rattle.bits.specs.Packing.{value, digits, bitsOf, pack, unpack};
-ghost use Rattle.bits.specs.Places.{putAt};
-
-// Whether n places from `at` on lie below len.
-fn within(len: usize, at: usize, n: usize) -> bool
-    ensures { λ r. ⌜ r ≡ leb (at + n) len ⌝ }
-{
-    if len < n {
-        return false;
-    }
-    at <= len - n
-}
+ghost use Rattle.numbers.specs.Places.{putAt};
 
 // Writes the 6 bytes that begin a query for `count` prefixes of k + 1 bits, from place `at` on.
 pub fn write_heading(out: &mut [u8], at: usize, k: u64, count: u64)
@@ -26,15 +17,8 @@ pub fn write_heading(out: &mut [u8], at: usize, k: u64, count: u64)
     if !within(out.len(), at, 6) {
         return;
     }
-    bits::numbers::write_be2(out, at, k);
-    bits::numbers::write_be4(out, at + 2, count);
-}
-
-// A byte as a wider number.
-fn wide(x: u8) -> u64
-    ensures { λ r. ⌜ (r ≡ x) × (r < 256) ⌝ }
-{
-    x as u64
+    numbers::write_be2(out, at, k);
+    numbers::write_be4(out, at + 2, count);
 }
 
 // The byte that begins with the first `rest` bits of x and then has `bit`; its other bits are zero.
@@ -61,7 +45,7 @@ fn put_child(prefix: &[u8], whole: usize, rest: usize, bit: bool, out: &mut [u8]
         return;
     }
     let last = last_byte(prefix[whole], rest, bit);
-    bits::numbers::copy(&prefix[..end], out, at);
+    numbers::copy(&prefix[..end], out, at);
     out[at + whole] = last;
 }
 
@@ -74,7 +58,7 @@ fn put_child_of_all(prefix: &[u8], bit: bool, out: &mut [u8], at: usize)
         return;
     }
     let last = last_byte(0, 0, bit);
-    bits::numbers::copy(prefix, out, at);
+    numbers::copy(prefix, out, at);
     out[at + whole] = last;
 }
 

@@ -7,7 +7,7 @@ use mathlib.Core.Bool.{false, not}
 use mathlib.Core.List.{List, [], _∷_}
 use borrow.Author.Tests.{eq-eqb, le-ltb}
 use lib.ListN.{length}
-use Rattle.bits.specs.Lists.{All}
+use Rattle.numbers.specs.Lists.{All}
 use Rattle.calls.specs.Bounds.{mostReports}
 use Rattle.calls.specs.Causes.{Cause, numberDue}
 use Rattle.calls.proofs.Decisions.{neither-test, in-bounds}

@@ -5,14 +5,13 @@ use mathlib.Core.Path.{_≡_, sym, ap, ap₂, _∙_}
 use mathlib.Core.List.{List, _++_, map, append-assoc}
 use lib.ListN.{length, length-append}
 use Rattle.bits.specs.Strings.{Bits}
-use Rattle.bits.specs.Numbers.{big, fromLittle}
+use Rattle.numbers.specs.Numbers.{big, fromLittle}
 use Rattle.bits.specs.Packing.{packedLength, unpack}
-use Rattle.bits.specs.Places.{putAt}
-use Rattle.bits.proofs.Endian.{big-length}
-use Rattle.bits.proofs.Places.{putAt-length, putAt-more}
-use Rattle.tree.specs.Query.{packs, query}
-use Rattle.tree.specs.Search.{children}
-use Rattle.tree.proofs.Children.{children-length}
+use Rattle.numbers.specs.Places.{putAt}
+use Rattle.numbers.proofs.Endian.{big-length}
+use Rattle.numbers.proofs.Places.{putAt-length, putAt-more}
+use Rattle.query.specs.Query.{packs, query, children}
+use Rattle.query.proofs.Children.{children-length}
 use Rattle.search.specs.Level.{reaching}
 use Rattle.search.proofs.Pieces.{parts-before, reachingAt}
 

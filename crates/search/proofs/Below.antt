@@ -10,16 +10,16 @@ use mathlib.Core.Logic.{inl, inr, ⊎-elim}
 use borrow.Author.Tests.{leb-true, le-leb}
 use lib.ListN.{length, length-append}
 use lib.Dec.{leb}
-use Rattle.bits.specs.Lists.{select}
+use Rattle.numbers.specs.Lists.{select}
 use Rattle.bits.specs.Strings.{Bits}
 use Rattle.bits.specs.Packing.{packedLength}
-use Rattle.bits.specs.Places.{putAt}
-use Rattle.bits.proofs.Places.{putAt-nil, putAt-length, putAt-more}
-use Rattle.tree.specs.Query.{OfLength, packs, query, limit}
-use Rattle.tree.specs.Search.{children, totals, keptFrom, fitsFrom, recordFrom, isKept}
-use Rattle.tree.proofs.Lists.{and-left, and-right}
-use Rattle.tree.proofs.Children.{children-length, children-longer}
-use Rattle.tree.proofs.Queries.{query-length}
+use Rattle.numbers.specs.Places.{putAt}
+use Rattle.numbers.proofs.Places.{putAt-nil, putAt-length, putAt-more}
+use Rattle.query.specs.Query.{OfLength, packs, query, limit, children}
+use Rattle.tree.specs.Search.{totals, keptFrom, fitsFrom, recordFrom, isKept}
+use Rattle.numbers.proofs.Lists.{and-left, and-right}
+use Rattle.query.proofs.Children.{children-length, children-longer}
+use Rattle.query.proofs.Queries.{query-length}
 use Rattle.tree.proofs.Lengths.{totals-length}
 use Rattle.tree.proofs.Steps.{kept-nothing, fits-nothing, record-nothing}
 use Rattle.search.specs.Level.{Listed, Fits, Written, recordLeft, listLeft, queriesLeft, AnsweredBelow}

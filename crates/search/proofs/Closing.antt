@@ -9,10 +9,10 @@ use mathlib.Core.Logic.{_≢_, ⊎-elim}
 use borrow.Author.Tests.{ltb-false, le-ltb, not-false}
 use lib.ListN.{length, replicate}
 use lib.Dec.{leb, ltb}
-use Rattle.bits.specs.Lists.{All}
+use Rattle.numbers.specs.Lists.{All}
 use Rattle.bits.specs.Strings.{Bits}
-use Rattle.bits.specs.Places.{putAt}
-use Rattle.bits.proofs.Places.{putAt-overlay}
+use Rattle.numbers.specs.Places.{putAt}
+use Rattle.numbers.proofs.Places.{putAt-overlay}
 use Rattle.calls.specs.Causes.{Cause, cause, numberDue}
 use Rattle.calls.proofs.Decisions.{neither, neither-test}
 use Rattle.calls.proofs.Judged.{_&_}
@@ -21,7 +21,7 @@ use Rattle.expander.specs.declared.Expander.{Expander}
 use Rattle.expander.specs.declared.Choice.{Choice}
 use Rattle.expander.specs.declared.Choice.the-variants.{Known, Unknown}
 use Rattle.expander.proofs.Chosen.{unknown}
-use Rattle.tree.specs.Query.{packs}
+use Rattle.query.specs.Query.{packs}
 use Rattle.tree.specs.Search.{start, keptFrom, fitsFrom, recordFrom, heading, isKept, searchRecord, searchList, searchFits}
 use Rattle.search.specs.Search.{Lent, total, totalUnder, reports, recordBytes, listBytes, queriesFit, searchNumber, recordLength, listLength, recordAfter, listAfter}
 use Rattle.search.specs.Search.{totalOf}

@@ -7,23 +7,23 @@ use mathlib.Core.Bool.{Bool, true, false}
 use mathlib.Core.List.{List, [], _∷_, _++_, map, append-assoc, append-nil}
 use lib.ListN.{length, take, drop}
 use lib.Seq.{drop-drop}
-use Rattle.bits.specs.Lists.{digit, number}
+use Rattle.numbers.specs.Lists.{digit, number}
 use Rattle.bits.specs.Strings.{Bits}
-use Rattle.bits.specs.Numbers.{little}
+use Rattle.numbers.specs.Numbers.{little}
 use Rattle.bits.specs.Packing.{packedLength, unpack}
-use Rattle.bits.specs.Places.{putAt}
-use Rattle.bits.proofs.Endian.{little-length}
+use Rattle.numbers.specs.Places.{putAt}
+use Rattle.numbers.proofs.Endian.{little-length}
 use Rattle.bits.proofs.Packed.{unpack-length}
-use Rattle.bits.proofs.Places.{putAt-more, Grown, grown-start, grown-room, grown-more, grown-end}
+use Rattle.numbers.proofs.Places.{putAt-more, Grown, grown-start, grown-room, grown-more, grown-end}
 use Rattle.expander.specs.declared.Expander.{Expander}
 use Rattle.group.specs.Modular.{field}
 use Rattle.point.specs.Share.{bitOf}
 use Rattle.idpf.specs.Reports.{packedBit, serverSum}
 use Rattle.idpf.proofs.LentPrefix.{serverSum-unpack}
-use Rattle.tree.specs.Query.{parts}
+use Rattle.query.specs.Query.{parts}
 use Rattle.tree.specs.Search.{totals}
 use Rattle.tree.proofs.Lengths.{totals-length}
-use Rattle.tree.proofs.Lists.{number-le}
+use Rattle.numbers.proofs.Lists.{number-le}
 use Rattle.search.specs.Search.{totalOf}
 use Rattle.search.specs.Level.{stringsAt}
 use Rattle.search.proofs.Pieces.{parts-before, strings-length, strings-none, grown-length}

@@ -7,14 +7,14 @@ use mathlib.Core.List.{List, [], _∷_, _++_}
 use mathlib.Core.Logic.{_≢_, inl, inr, ⊎-elim}
 use lib.ListN.{length, drop, replicate, length-append, length-replicate}
 use lib.Dec.{leb}
-use Rattle.bits.specs.Lists.{select}
+use Rattle.numbers.specs.Lists.{select}
 use Rattle.bits.specs.Strings.{Bits}
-use Rattle.bits.specs.Numbers.{big}
+use Rattle.numbers.specs.Numbers.{big}
 use Rattle.bits.specs.Packing.{packedLength, value, packIn, pack}
-use Rattle.bits.specs.Places.{putAt}
-use Rattle.bits.proofs.Places.{putAt-length, putAt-more}
-use Rattle.tree.specs.Query.{packs, query, parts}
-use Rattle.tree.specs.Search.{start, children, totals, keptFrom, fitsFrom, recordFrom, isKept}
+use Rattle.numbers.specs.Places.{putAt}
+use Rattle.numbers.proofs.Places.{putAt-length, putAt-more}
+use Rattle.query.specs.Query.{packs, query, parts, children}
+use Rattle.tree.specs.Search.{start, totals, keptFrom, fitsFrom, recordFrom, isKept}
 use Rattle.tree.proofs.Lengths.{totals-length}
 use Rattle.search.specs.Level.{stringsAt, Packed, Fits, Written, recordLeft, listLeft, queriesLeft, Answered, AnsweredBelow, AnsweredAll}
 use Rattle.search.proofs.Reading.{query-strings, query-packed}

@@ -9,7 +9,7 @@ use mathlib.Core.Logic.{_≢_}
 use borrow.Author.Tests.{eqb-true, ltb-false, not-false}
 use lib.ListN.{length}
 use lib.Dec.{eqb, ltb}
-use Rattle.bits.specs.Lists.{All}
+use Rattle.numbers.specs.Lists.{All}
 use Rattle.calls.specs.Bounds.{lengthOutside, thresholdOutside, mostReports}
 use Rattle.calls.specs.Causes.{Cause, cause, numberDue}
 use Rattle.calls.proofs.Decisions.{neither}

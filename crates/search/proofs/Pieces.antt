@@ -10,14 +10,13 @@ use lib.ListN.{length, take, drop, replicate, length-append, length-drop, length
 use lib.Seq.{take-append-le, take-take, take-add, drop-at, drop-drop, length-take-le}
 use lib.Dec.{leb}
 use Rattle.bits.specs.Strings.{Bits, _▹_}
-use Rattle.bits.specs.Numbers.{fromLittle}
+use Rattle.numbers.specs.Numbers.{fromLittle}
 use Rattle.bits.specs.Packing.{packedLength, pack, digits, bitsOf, unpack}
-use Rattle.bits.specs.Places.{window, putAt, overlay}
+use Rattle.numbers.specs.Places.{window, putAt, overlay}
 use Rattle.bits.proofs.Packed.{bitsOf-length, unpack-length}
-use Rattle.bits.proofs.Places.{window-inside, putAt-inside, putAt-outside, putAt-length, putAt-overlay, putAt-more, Grown}
-use Rattle.tree.specs.Query.{packs, parts}
-use Rattle.tree.specs.Search.{children}
-use Rattle.tree.proofs.Queries.{parts-length}
+use Rattle.numbers.proofs.Places.{window-inside, putAt-inside, putAt-outside, putAt-length, putAt-overlay, putAt-more, Grown}
+use Rattle.query.specs.Query.{packs, parts, children}
+use Rattle.query.proofs.Queries.{parts-length}
 use Rattle.query.proofs.Parts.{peel, parts-step}
 use Rattle.query.proofs.Child.{child-length}
 use Rattle.search.specs.Level.{stringsAt, numbersAt, reaching, both, Packed}

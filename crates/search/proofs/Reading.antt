@@ -7,17 +7,17 @@ use mathlib.Core.List.{List, [], _∷_, _++_, map, append-assoc}
 use lib.ListN.{length, take, drop}
 use lib.Seq.{take-at, drop-at, drop-drop, length-take-le}
 use lib.Dec.{leb}
-use Rattle.bits.specs.Lists.{select}
+use Rattle.numbers.specs.Lists.{select}
 use Rattle.bits.specs.Strings.{Bits}
-use Rattle.bits.specs.Numbers.{little, fromLittle}
+use Rattle.numbers.specs.Numbers.{little, fromLittle}
 use Rattle.bits.specs.Packing.{packedLength, pack, unpack}
-use Rattle.bits.specs.Places.{putAt}
-use Rattle.bits.proofs.Endian.{little-length, fromLittle-little}
+use Rattle.numbers.specs.Places.{putAt}
+use Rattle.numbers.proofs.Endian.{little-length, fromLittle-little}
 use Rattle.bits.proofs.Packed.{pack-length, unpack-length, unpack-pack}
-use Rattle.bits.proofs.Places.{putAt-inside}
-use Rattle.tree.specs.Query.{OfLength, packs, query, parts}
+use Rattle.numbers.proofs.Places.{putAt-inside}
+use Rattle.query.specs.Query.{OfLength, packs, query, parts}
 use Rattle.tree.specs.Search.{totals, isKept}
-use Rattle.tree.proofs.Lists.{all-map, all-select}
+use Rattle.numbers.proofs.Lists.{all-map, all-select}
 use Rattle.tree.proofs.Lengths.{totals-length}
 use Rattle.combine.proofs.KeptSelect.{kept-select}
 use Rattle.search.specs.Level.{stringsAt, numbersAt, reaching, Packed}

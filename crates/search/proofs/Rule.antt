@@ -14,8 +14,8 @@ use Rattle.expander.specs.declared.Choice.{Choice}
 use Rattle.expander.specs.declared.Choice.the-variants.{Known}
 use Rattle.group.specs.Modular.{p}
 use Rattle.point.specs.Share.{bitOf}
-use Rattle.tree.specs.Query.{packs, limit}
-use Rattle.tree.specs.Search.{children, searchRecord, searchList}
+use Rattle.query.specs.Query.{packs, limit, children}
+use Rattle.tree.specs.Search.{searchRecord, searchList}
 use Rattle.tree.specs.Cut.{honestRecord, honestList, honestFits}
 use Rattle.tree.proofs.Limit.{fits-within}
 use Rattle.tree.proofs.Agree.{list-agrees, fits-agree, record-agrees}

@@ -9,19 +9,19 @@ use mathlib.Core.List.{List, [], _∷_}
 use borrow.Author.Tests.{leb-true}
 use lib.ListN.{length, drop}
 use lib.Dec.{leb}
-use Rattle.bits.specs.Lists.{select, number}
+use Rattle.numbers.specs.Lists.{select, number}
 use Rattle.bits.specs.Strings.{Bits}
 use Rattle.bits.specs.Packing.{packedLength}
-use Rattle.bits.specs.Places.{putAt}
-use Rattle.bits.proofs.Places.{putAt-length}
+use Rattle.numbers.specs.Places.{putAt}
+use Rattle.numbers.proofs.Places.{putAt-length}
 use Rattle.expander.specs.declared.Expander.{Expander}
 use Rattle.group.specs.Modular.{p}
 use Rattle.group.proofs.Modular.{field-laws}
-use Rattle.tree.specs.Query.{OfLength, packs, query, parts}
-use Rattle.tree.specs.Search.{children, totals, isKept}
-use Rattle.tree.proofs.Lists.{and-left, and-right, select-length, number-le}
-use Rattle.tree.proofs.Children.{children-length, children-longer}
-use Rattle.tree.proofs.Queries.{packs-length}
+use Rattle.query.specs.Query.{OfLength, packs, query, parts, children}
+use Rattle.tree.specs.Search.{totals, isKept}
+use Rattle.numbers.proofs.Lists.{and-left, and-right, select-length, number-le}
+use Rattle.query.proofs.Children.{children-length, children-longer}
+use Rattle.query.proofs.Queries.{packs-length}
 use Rattle.search.specs.Search.{totalOf}
 use Rattle.search.specs.Level.{stringsAt, Packed, Listed, AnsweredBelow}
 use Rattle.search.proofs.Pieces.{strings-length, reachingAt}

@@ -6,12 +6,12 @@ use mathlib.Core.List.{List, _++_, map}
 use mathlib.Core.Logic.{_⊎_}
 use lib.ListN.{length, drop}
 use lib.Dec.{leb}
-use Rattle.bits.specs.Lists.{All, select}
+use Rattle.numbers.specs.Lists.{All, select}
 use Rattle.bits.specs.Strings.{Bits, _▹_}
-use Rattle.bits.specs.Numbers.{fromLittle}
+use Rattle.numbers.specs.Numbers.{fromLittle}
 use Rattle.bits.specs.Packing.{packedLength, pack, unpack}
-use Rattle.bits.specs.Places.{putAt}
-use Rattle.tree.specs.Query.{packs, parts}
+use Rattle.numbers.specs.Places.{putAt}
+use Rattle.query.specs.Query.{packs, parts}
 use Rattle.combine.specs.Answer.{kept}
 use Rattle.tree.specs.Search.{start, totals, keptFrom, fitsFrom, recordFrom, isKept}
 

@@ -6,7 +6,7 @@ use mathlib.Core.Logic.{_≢_, _⊎_}
 use lib.ListN.{length, replicate}
 use lib.Dec.{leb, ltb, eqb}
 use Rattle.bits.specs.Strings.{Bits}
-use Rattle.bits.specs.Places.{overlay}
+use Rattle.numbers.specs.Places.{overlay}
 use Rattle.calls.specs.Bounds.{LengthOutside, lengthOutside, ThresholdOutside, thresholdOutside, mostReports}
 use Rattle.calls.specs.Causes.{Cause, cause, numberDue}
 use Rattle.calls.specs.Clauses.{Clause, clause}
@@ -16,8 +16,8 @@ use Rattle.expander.specs.declared.Choice.{Choice}
 use Rattle.expander.specs.declared.Choice.the-variants.{Known, Unknown}
 use Rattle.group.specs.Modular.{field}
 use Rattle.point.specs.Share.{bitOf}
-use Rattle.tree.specs.Query.{packs, limit}
-use Rattle.tree.specs.Search.{children, searchRecord, searchList, searchFits}
+use Rattle.query.specs.Query.{packs, limit, children}
+use Rattle.tree.specs.Search.{searchRecord, searchList, searchFits}
 use Rattle.idpf.specs.Reports.{serverSum}
 use Rattle.idpf.specs.Share.{WrongLengths, wrongLengths, PayloadTooLarge, payloadTooLarge, SpareBitsSet, spareBitsSet}
 

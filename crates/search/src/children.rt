@@ -1,7 +1,7 @@
 // The next query: both children of each kept prefix.
-use bits::numbers::copy;
-use bits::numbers::read_le8;
-use bits::packing::packed_length;
+use bits::packed_length;
+use numbers::copy;
+use numbers::read_le8;
 use query::write_child;
 use query::write_heading;
 ghost use mathlib.Core.Path.{_≡_};
@@ -10,11 +10,10 @@ ghost use mathlib.Core.List.{[]};
 ghost use Prim.Native.Nat.{_+_, _*_, _≤_};
 ghost use lib.ListN.{length, take, drop, replicate};
 ghost use lib.Dec.{leb};
-ghost use Rattle.bits.specs.Numbers.{fromLittle};
+ghost use Rattle.numbers.specs.Numbers.{fromLittle};
 ghost use Rattle.bits.specs.Packing.{packedLength, unpack};
-ghost use Rattle.bits.specs.Places.{window, putAt};
-ghost use Rattle.tree.specs.Query.{packs, query};
-ghost use Rattle.tree.specs.Search.{children};
+ghost use Rattle.numbers.specs.Places.{window, putAt};
+ghost use Rattle.query.specs.Query.{packs, query, children};
 ghost use Rattle.search.specs.Level.{stringsAt, numbersAt, reaching, both};
 
 // Whether the total at place `at` of the record reaches t.

@@ -3,7 +3,7 @@ use crate::Found;
 use crate::children::write_next;
 use crate::heavy::write_list;
 use crate::sums::write_totals;
-use bits::packing::packed_length;
+use bits::packed_length;
 use expander::Expander;
 ghost use mathlib.Core.Path.{_≡_};
 ghost use mathlib.Core.Bool.{_&&_};
@@ -11,7 +11,7 @@ ghost use Prim.Native.Nat.{_+_, _-_, _*_, _≤_, _<_};
 ghost use lib.ListN.{length, drop};
 ghost use lib.Dec.{leb};
 ghost use Rattle.bits.specs.Packing.{packedLength};
-ghost use Rattle.tree.specs.Query.{packs, parts};
+ghost use Rattle.query.specs.Query.{packs, parts};
 ghost use Rattle.search.specs.Search.{totalOf};
 ghost use Rattle.search.specs.Level.{stringsAt, numbersAt, reaching, Packed, Listed, AnsweredBelow};
 

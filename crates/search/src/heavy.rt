@@ -1,15 +1,15 @@
 // The list: the kept prefixes of the last level.
 use crate::children::is_kept;
-use bits::numbers::copy;
-use bits::packing::packed_length;
+use bits::packed_length;
+use numbers::copy;
 ghost use mathlib.Core.Path.{_≡_};
 ghost use mathlib.Core.Bool.{true, cond};
 ghost use mathlib.Core.List.{[]};
 ghost use Prim.Native.Nat.{_+_, _*_, _≤_};
 ghost use lib.ListN.{length, take, drop};
 ghost use Rattle.bits.specs.Packing.{packedLength};
-ghost use Rattle.bits.specs.Places.{putAt};
-ghost use Rattle.tree.specs.Query.{packs, parts};
+ghost use Rattle.numbers.specs.Places.{putAt};
+ghost use Rattle.query.specs.Query.{packs, parts};
 ghost use Rattle.search.specs.Level.{stringsAt, numbersAt, reaching, Packed};
 
 // The packed prefix in w bytes from place `from` on, into the places of the list from `here` on if it is kept; and the place after it.

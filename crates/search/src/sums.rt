@@ -1,15 +1,15 @@
 // The totals of a level, from both servers' reports.
-use bits::numbers::write_le8;
-use bits::packing::packed_length;
+use bits::packed_length;
 use expander::Expander;
+use numbers::write_le8;
 ghost use mathlib.Core.Path.{_≡_};
 ghost use Prim.Native.Nat.{_+_, _*_, _≤_};
 ghost use lib.ListN.{length, take, drop};
 ghost use lib.Dec.{leb};
-ghost use Rattle.bits.specs.Lists.{digit, number};
-ghost use Rattle.bits.specs.Numbers.{little};
+ghost use Rattle.numbers.specs.Lists.{digit, number};
+ghost use Rattle.numbers.specs.Numbers.{little};
 ghost use Rattle.bits.specs.Packing.{packedLength, unpack};
-ghost use Rattle.bits.specs.Places.{putAt};
+ghost use Rattle.numbers.specs.Places.{putAt};
 ghost use Rattle.tree.specs.Search.{totals, isKept};
 ghost use Rattle.search.specs.Search.{totalOf};
 ghost use Rattle.search.specs.Level.{stringsAt};

@@ -1,16 +1,16 @@
 // A whole search for which none of the causes before 11 applies.
 use crate::Found;
 use crate::descent::descend;
-use bits::numbers::copy;
 use expander::Expander;
+use numbers::copy;
 ghost use mathlib.Core.Path.{_≡_};
 ghost use mathlib.Core.Logic.{_≢_};
 ghost use Prim.Native.Nat.{_≤_};
 ghost use lib.ListN.{length, replicate};
 ghost use lib.Dec.{leb};
-ghost use Rattle.bits.specs.Places.{putAt};
-ghost use Rattle.tree.specs.Query.{query};
-ghost use Rattle.tree.specs.Search.{start, children};
+ghost use Rattle.numbers.specs.Places.{putAt};
+ghost use Rattle.query.specs.Query.{query, children};
+ghost use Rattle.tree.specs.Search.{start};
 ghost use Rattle.search.specs.Search.{totalOf};
 ghost use Rattle.search.specs.Level.{AnsweredAll};
 

@@ -6,13 +6,13 @@ use mathlib.Core.Bool.{Bool, _&&_}
 use mathlib.Core.List.{List, [], _∷_, _++_}
 use lib.ListN.{length}
 use lib.Dec.{leb}
-use Rattle.bits.specs.Lists.{All, select}
+use Rattle.numbers.specs.Lists.{All, select}
 use Rattle.bits.specs.Strings.{Bits}
-use Rattle.bits.specs.Numbers.{little}
-use Rattle.tree.specs.Query.{OfLength, query, limit}
-use Rattle.tree.specs.Search.{start, children, totals, level, keptFrom, fitsFrom, recordFrom, heading, isKept, searchRecord, searchList, searchFits}
-use Rattle.tree.proofs.Lists.{all-map}
-use Rattle.tree.proofs.Children.{children-longer, kept-longer}
+use Rattle.numbers.specs.Numbers.{little}
+use Rattle.query.specs.Query.{OfLength, query, limit, children}
+use Rattle.tree.specs.Search.{start, totals, level, keptFrom, fitsFrom, recordFrom, heading, isKept, searchRecord, searchList, searchFits}
+use Rattle.numbers.proofs.Lists.{all-map}
+use Rattle.query.proofs.Children.{children-longer, kept-longer}
 
 -- ---- totals that agree at the prefixes of one query
 

@@ -6,9 +6,9 @@ use mathlib.Core.Bool.{Bool}
 use mathlib.Core.List.{List}
 use lib.ListN.{length}
 use Rattle.bits.specs.Strings.{Bits, Ascending}
-use Rattle.tree.specs.Query.{OfLength, query, limit, IsQuery}
-use Rattle.tree.specs.Search.{children, searchList}
-use Rattle.tree.proofs.Children.{children-length, children-longer, children-ascending}
+use Rattle.query.specs.Query.{OfLength, query, limit, IsQuery, children}
+use Rattle.tree.specs.Search.{searchList}
+use Rattle.query.proofs.Children.{children-length, children-longer, children-ascending}
 use Rattle.tree.proofs.Kept.{list-length, list-ascending}
 
 -- The children of ascending prefixes of k bits make a query, if there are some, not too many, and not too long.

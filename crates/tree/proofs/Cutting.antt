@@ -9,9 +9,9 @@ use borrow.Author.Tests.{ltb-true, ltb-false, lt-leb, le-leb}
 use lib.ListN.{length}
 use lib.Dec.{leb, ltb}
 use Rattle.bits.specs.Strings.{Bits, _▹_, isPrefix, count}
-use Rattle.tree.specs.Query.{OfLength}
+use Rattle.query.specs.Query.{OfLength}
 use Rattle.tree.specs.Cut.{prefixes, first, cut, cuts, isSame, times}
-use Rattle.tree.proofs.Lists.{all-map, number-cong, number-and, number-map}
+use Rattle.numbers.proofs.Lists.{all-map, number-cong, number-and, number-map}
 use Rattle.tree.proofs.Kept.{Open}
 
 -- ---- prefixes and cuts, one bit after the other

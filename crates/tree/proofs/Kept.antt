@@ -8,14 +8,14 @@ use mathlib.Core.Bool.{Bool, true}
 use mathlib.Core.List.{List, [], _∷_, _++_, append-assoc, append-nil}
 use mathlib.Core.List.{List·Memᴰ·head as here}
 use lib.ListN.{length, length-append}
-use Rattle.bits.specs.Lists.{_∈_, All, select}
+use Rattle.numbers.specs.Lists.{_∈_, All, select}
 use Rattle.bits.specs.Strings.{Bits, _▹_, Ascending}
-use Rattle.tree.specs.Query.{OfLength}
-use Rattle.tree.specs.Search.{start, children, keptFrom, isKept, searchList, Ended}
+use Rattle.query.specs.Query.{OfLength, children}
+use Rattle.tree.specs.Search.{start, keptFrom, isKept, searchList, Ended}
 use Rattle.tree.specs.Cut.{prefixes}
-use Rattle.tree.proofs.Lists.{all-map, all-mem, all-select, mem-select, all-over-map}
+use Rattle.numbers.proofs.Lists.{all-map, all-mem, all-select, mem-select, all-over-map}
 use Rattle.tree.proofs.Steps.{kept-nothing}
-use Rattle.tree.proofs.Children.{mem-children, all-children, children-ascending, select-ascending}
+use Rattle.query.proofs.Children.{mem-children, all-children, children-ascending, select-ascending}
 
 -- ---- every non-empty prefix of a string is kept, one bit after the other
 

@@ -7,18 +7,18 @@ use mathlib.Core.Bool.{Bool}
 use mathlib.Core.List.{List, [], _∷_}
 use lib.ListN.{length, length-append}
 use lib.Dec.{leb}
-use Rattle.bits.specs.Lists.{select}
+use Rattle.numbers.specs.Lists.{select}
 use Rattle.bits.specs.Strings.{Bits, count}
-use Rattle.bits.specs.Numbers.{little}
+use Rattle.numbers.specs.Numbers.{little}
 use Rattle.bits.specs.Packing.{packedLength}
-use Rattle.bits.proofs.Endian.{little-length}
-use Rattle.tree.specs.Query.{OfLength, packs, query}
-use Rattle.tree.specs.Search.{start, children, totals, level, recordFrom, heading, headingLength, isKept, searchRecord, searchList}
+use Rattle.numbers.proofs.Endian.{little-length}
+use Rattle.query.specs.Query.{OfLength, packs, query, children}
+use Rattle.tree.specs.Search.{start, totals, level, recordFrom, heading, headingLength, isKept, searchRecord, searchList}
 use Rattle.tree.specs.Cut.{honestRecord, honestList}
 use Rattle.tree.specs.Space.{levelLength, spaceFrom, recordSpace, listSpace}
-use Rattle.tree.proofs.Lists.{select-length, number-le}
-use Rattle.tree.proofs.Children.{children-length, children-longer, kept-longer}
-use Rattle.tree.proofs.Queries.{packs-length, query-length}
+use Rattle.numbers.proofs.Lists.{select-length, number-le}
+use Rattle.query.proofs.Children.{children-length, children-longer, kept-longer}
+use Rattle.query.proofs.Queries.{packs-length, query-length}
 use Rattle.tree.proofs.Kept.{list-length}
 use Rattle.tree.proofs.Totals.{heavy, Stands, stands-start, stands-kept, stands-few, kept-length}
 

@@ -1,9 +1,6 @@
-pub mod Lists
 pub mod Rearranging
 pub mod Prefixes
-pub mod Children
 pub mod Agree
-pub mod Queries
 pub mod Steps
 pub mod Kept
 pub mod Asked

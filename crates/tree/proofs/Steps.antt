@@ -7,10 +7,10 @@ use mathlib.Core.Bool.{Bool, true, _&&_}
 use mathlib.Core.List.{List, [], _++_, append-assoc, append-nil}
 use lib.ListN.{length}
 use lib.Dec.{leb}
-use Rattle.bits.specs.Lists.{select}
+use Rattle.numbers.specs.Lists.{select}
 use Rattle.bits.specs.Strings.{Bits}
-use Rattle.tree.specs.Query.{limit}
-use Rattle.tree.specs.Search.{start, children, level, keptFrom, fitsFrom, recordFrom, heading, isKept, searchRecord}
+use Rattle.query.specs.Query.{limit, children}
+use Rattle.tree.specs.Search.{start, level, keptFrom, fitsFrom, recordFrom, heading, isKept, searchRecord}
 
 one-more : (n k : ℕ) → k < n → n - k ≡ suc (n - suc k)
 one-more n k h = omega arith

@@ -8,13 +8,13 @@ use mathlib.Core.List.{List, [], _∷_, _++_}
 use borrow.Author.Tests.{leb-true, le-leb}
 use lib.ListN.{length}
 use lib.Dec.{leb}
-use Rattle.bits.specs.Lists.{digit, All, select}
+use Rattle.numbers.specs.Lists.{digit, All, select}
 use Rattle.bits.specs.Strings.{Bits, _▹_, isPrefix, count}
-use Rattle.tree.specs.Query.{OfLength, limit}
-use Rattle.tree.specs.Search.{start, children, keptFrom, fitsFrom, searchList, searchFits}
+use Rattle.query.specs.Query.{OfLength, limit, children}
+use Rattle.tree.specs.Search.{start, keptFrom, fitsFrom, searchList, searchFits}
 use Rattle.tree.specs.Cut.{honestList, honestFits}
-use Rattle.tree.proofs.Lists.{digit-le, number-le, all-map}
-use Rattle.tree.proofs.Children.{children-length}
+use Rattle.numbers.proofs.Lists.{digit-le, number-le, all-map}
+use Rattle.query.proofs.Children.{children-length}
 use Rattle.tree.proofs.Kept.{Open, open-last, Survives, survives-kept}
 
 -- ---- children and parents

@@ -5,12 +5,12 @@ use mathlib.Core.Bool.{Bool, true, false, cond, _&&_, Bool·beq}
 use mathlib.Core.List.{List, [], _∷_, map}
 use lib.ListN.{length}
 use lib.Dec.{leb, ltb}
-use Rattle.bits.specs.Lists.{number}
+use Rattle.numbers.specs.Lists.{number}
 use Rattle.bits.specs.Strings.{Bits, count}
 use Rattle.tree.specs.Search.{searchRecord, searchList, searchFits}
 
 -- ---- honest searches: each of the strings xs is held by one installation, and the total of a prefix is the number of strings that have it;
--- that honest reports have these totals is shown in `demands` (`honest-total`)
+-- that honest reports have these totals is shown in `honest` (`honest-total`)
 
 -- heavy: at least t installations hold s
 abbrev pub Heavy : ℕ → List Bits → Bits → Type 0

@@ -1,4 +1,3 @@
-pub mod Query
 pub mod Search
 pub mod Cut
 pub mod Space

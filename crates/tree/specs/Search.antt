@@ -1,23 +1,18 @@
 -- Document 01, 'The search': the search rule, over any totals and any test of a total. Assumes nothing.
 use Prim.Native.Nat.{ℕ, zero, suc, _<_}
 use mathlib.Core.Path.{_≡_}
-use mathlib.Core.Bool.{Bool, true, false, _&&_}
+use mathlib.Core.Bool.{Bool, true, _&&_}
 use mathlib.Core.List.{List, [], _∷_, _++_}
 use lib.ListN.{length}
 use lib.Dec.{leb}
-use Rattle.bits.specs.Lists.{select}
-use Rattle.bits.specs.Strings.{Bits, _▹_}
-use Rattle.bits.specs.Numbers.{little}
-use Rattle.tree.specs.Query.{query, limit}
+use Rattle.numbers.specs.Lists.{select}
+use Rattle.bits.specs.Strings.{Bits}
+use Rattle.numbers.specs.Numbers.{little}
+use Rattle.query.specs.Query.{query, children, limit}
 
 -- the empty prefix, from which a search goes down
 abbrev pub start : List Bits
 start = [] ∷ []
-
--- both children of each prefix, in order; those of the empty prefix are `0` and `1`
-abbrev pub children : List Bits → List Bits
-children [] = []
-children (p ∷ ps) = p ▹ false ∷ p ▹ true ∷ children ps
 
 -- the number that T gives for each prefix, 8 bytes each: its total, or one server's share
 abbrev pub totals : (Bits → ℕ) → List Bits → List ℕ

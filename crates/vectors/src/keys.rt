@@ -1,7 +1,7 @@
 // Keys of chosen strings and both servers' shares of them, as lines in hexadecimal.
-use bits::numbers::copy;
-use bits::numbers::write_be2;
-use bits::numbers::write_be4;
+use numbers::copy;
+use numbers::write_be2;
+use numbers::write_be4;
 
 // Standard output.
 const OUT: i32 = 1;

@@ -9,16 +9,16 @@ const OUT: i32 = 1;
 fn show(label: &[u8], block: [u8; 16]) {
     io::write_all(OUT, label);
     io::write_all(OUT, b" ");
-    io::print_hex(OUT, bits::numbers::read_be8(&block, 0), 16);
-    io::print_hex(OUT, bits::numbers::read_be8(&block, 8), 16);
+    io::print_hex(OUT, numbers::read_be8(&block, 0), 16);
+    io::print_hex(OUT, numbers::read_be8(&block, 8), 16);
     io::write_all(OUT, b"\n");
 }
 
 // A block from two words, as the standards print it.
 fn block(high: u64, low: u64) -> [u8; 16] {
     let mut bytes = [0u8; 16];
-    bits::numbers::write_be8(&mut bytes, 0, high);
-    bits::numbers::write_be8(&mut bytes, 8, low);
+    numbers::write_be8(&mut bytes, 0, high);
+    numbers::write_be8(&mut bytes, 8, low);
     bytes
 }
 

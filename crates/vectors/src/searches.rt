@@ -1,8 +1,8 @@
 // Whole searches: examples D to J of the sheet, and the bounds of n and t, as lines.
 use crate::keys::first_bytes;
-use bits::numbers::copy;
-use bits::numbers::read16;
-use bits::numbers::write_le8;
+use numbers::copy;
+use numbers::read16;
+use numbers::write_le8;
 use search::Found;
 
 // Standard output.

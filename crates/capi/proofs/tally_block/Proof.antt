@@ -4,8 +4,8 @@ use mathlib.Core.List.{List}
 use lib.ListN.{length}
 use Prim.Native.Nat.{ℕ}
 use native.Mathlib.Omega.{arith}
-use Rattle.bits.specs.Places.{putAt}
-use Rattle.bits.proofs.Places.{window-whole, overlay-nil, putAt-overlay}
+use Rattle.numbers.specs.Places.{putAt}
+use Rattle.numbers.proofs.Places.{window-whole, overlay-nil, putAt-overlay}
 use Rattle.expander.specs.Expander.{blockOf}
 use Rattle.expander.proofs.Sized.{block-length}
 use Rattle.capi.proofs.Block.{unknown-expander, wrong-length, no-room, all-well}

@@ -5,8 +5,8 @@ use mathlib.Core.Path.{_≡_, sym, ap, _∙_}
 use borrow.Author.Needs.{needs}
 use lib.ListN.{length, getD}
 use Rattle.bits.specs.Packing.{packedLength}
-use Rattle.bits.proofs.Places.{putAt-length}
-use Rattle.tree.specs.Query.{limit}
+use Rattle.numbers.proofs.Places.{putAt-length}
+use Rattle.query.specs.Query.{limit}
 use Rattle.query.proofs.Check.{few-bytes}
 use Rattle.query.proofs.Ready.{ready as query-ready}
 use Rattle.combine.proofs.Ready.{Ready, ready}

@@ -6,7 +6,7 @@ use mathlib.Core.List.{[], _∷_}
 use borrow.Author.Needs.{needs}
 use borrow.Author.Tests.{lt-ltb, le-ltb}
 use lib.ListN.{length, length-append}
-use Rattle.bits.proofs.Places.{overlay-nil}
+use Rattle.numbers.proofs.Places.{overlay-nil}
 use Rattle.exam_text.specs.Characters.{newline, decimal}
 use Rattle.exam_text.specs.Exam.{refusedText, refusedOutcome}
 use Rattle.exam_text.proofs.refused_line.Statement.{statement}

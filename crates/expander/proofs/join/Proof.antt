@@ -2,8 +2,8 @@
 use mathlib.Core.Path.{ap, _∙_}
 use mathlib.Core.List.{List}
 use Prim.Native.Nat.{ℕ}
-use Rattle.bits.specs.Numbers.{little}
-use Rattle.bits.specs.Places.{putAt}
+use Rattle.numbers.specs.Numbers.{little}
+use Rattle.numbers.specs.Places.{putAt}
 use Rattle.expander.proofs.Words.{joined}
 use borrow.Author.Needs.{needs}
 use Rattle.expander.proofs.join.Statement.{statement}

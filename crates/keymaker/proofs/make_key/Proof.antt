@@ -5,9 +5,9 @@ use mathlib.Core.List.{List}
 use Prim.Native.Nat.{ℕ}
 use native.Mathlib.Omega.{arith}
 use lib.ListN.{length}
-use Rattle.bits.specs.Numbers.{Bytes}
-use Rattle.bits.specs.Places.{overlay}
-use Rattle.bits.proofs.Places.{window-bytes, window-whole, overlay-nil}
+use Rattle.numbers.specs.Numbers.{Bytes}
+use Rattle.numbers.specs.Places.{overlay}
+use Rattle.numbers.proofs.Places.{window-bytes, window-whole, overlay-nil}
 use Rattle.expander.proofs.Chosen.{unknown}
 use Rattle.keymaker.specs.Key.{keyBytes}
 use Rattle.keymaker.proofs.KeyCauses.{Ready, nothing-written, ready, key-accepted}

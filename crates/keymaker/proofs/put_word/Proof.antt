@@ -4,10 +4,10 @@ use mathlib.Core.List.{List}
 use Prim.Native.Nat.{ℕ, _+_}
 use native.Mathlib.Omega.{arith}
 use lib.ListN.{length, length-map}
-use Rattle.bits.specs.Numbers.{little}
-use Rattle.bits.specs.Places.{putAt}
-use Rattle.bits.proofs.Endian.{little-length}
-use Rattle.bits.proofs.Places.{putAt-more}
+use Rattle.numbers.specs.Numbers.{little}
+use Rattle.numbers.specs.Places.{putAt}
+use Rattle.numbers.proofs.Endian.{little-length}
+use Rattle.numbers.proofs.Places.{putAt-more}
 use Rattle.point.specs.PublicShare.{levelBytes}
 use borrow.Author.Needs.{needs}
 use Rattle.keymaker.proofs.put_word.Statement.{statement}

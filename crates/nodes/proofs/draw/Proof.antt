@@ -1,8 +1,8 @@
 -- `nodes::draw` meets its contract. Assumes nothing.
 use mathlib.Core.Path.{ap, _∙_}
 use Prim.Native.Nat.{ℕ, _%_}
-use Rattle.bits.specs.Numbers.{fromLittle}
-use Rattle.bits.proofs.Places.{window-inside}
+use Rattle.numbers.specs.Numbers.{fromLittle}
+use Rattle.numbers.proofs.Places.{window-inside}
 use Rattle.group.specs.Modular.{p}
 use native.Mathlib.Omega.{arith}
 use borrow.Author.Needs.{needs}

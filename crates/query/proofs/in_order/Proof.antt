@@ -7,7 +7,7 @@ use mathlib.Core.List.{map}
 use borrow.Author.Tests.{not-true, not-false}
 use lib.ListN.{length, drop}
 use Rattle.bits.specs.Packing.{unpack}
-use Rattle.tree.specs.Query.{parts, sparesZero, isAscending}
+use Rattle.query.specs.Query.{parts, sparesZero, isAscending}
 use Rattle.query.proofs.Parts.{peel, spares-rest, ascending-few, ascending-no, ascending-yes}
 use Rattle.query.proofs.in_order.Statement.{statement}
 use Rattle.query.proofs.in_order.Tie as tie

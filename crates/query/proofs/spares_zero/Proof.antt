@@ -4,7 +4,7 @@ use native.Mathlib.Omega.{arith}
 use mathlib.Core.Path.{_≡_, refl, sym, _∙_}
 use borrow.Author.Tests.{not-true, not-false}
 use lib.ListN.{length, drop}
-use Rattle.tree.specs.Query.{parts, sparesZero}
+use Rattle.query.specs.Query.{parts, sparesZero}
 use Rattle.query.proofs.Parts.{peel, spares-none, spares-no, spares-yes}
 use Rattle.query.proofs.spares_zero.Statement.{statement}
 use Rattle.query.proofs.spares_zero.Tie as tie

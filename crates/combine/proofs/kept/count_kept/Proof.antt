@@ -7,7 +7,7 @@ use mathlib.Core.Logic.{⊎-elim}
 use borrow.Author.Needs.{needs}
 use lib.ListN.{length}
 use lib.Dec.{leb}
-use Rattle.bits.specs.Lists.{number}
+use Rattle.numbers.specs.Lists.{number}
 use Rattle.group.specs.Modular.{field}
 use Rattle.combine.specs.Answer.{numbers, added}
 use Rattle.combine.proofs.Numbers.{totalsFrom, number-yes, number-no, number-none}

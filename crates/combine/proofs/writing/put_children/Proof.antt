@@ -9,7 +9,7 @@ use lib.ListN.{length, take, drop}
 use Rattle.bits.specs.Strings.{Bits}
 use Rattle.bits.specs.Packing.{packedLength, unpack}
 use Rattle.bits.proofs.Packed.{unpack-length}
-use Rattle.bits.proofs.Places.{putAt-nil}
+use Rattle.numbers.proofs.Places.{putAt-nil}
 use Rattle.combine.proofs.Pieces.{part-length, both-length, both-put}
 use Rattle.combine.proofs.writing.put_children.Statement.{statement}
 use Rattle.combine.proofs.writing.put_children.Tie as tie

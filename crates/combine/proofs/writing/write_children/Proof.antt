@@ -10,9 +10,8 @@ use lib.ListN.{length, take, drop}
 use Rattle.bits.specs.Strings.{Bits}
 use Rattle.bits.specs.Packing.{packedLength, unpack}
 use Rattle.bits.proofs.Packed.{unpack-length}
-use Rattle.bits.proofs.Places.{Grown, grown-start, grown-room, grown-more, grown-end}
-use Rattle.tree.specs.Query.{packs}
-use Rattle.tree.specs.Search.{children}
+use Rattle.numbers.proofs.Places.{Grown, grown-start, grown-room, grown-more, grown-end}
+use Rattle.query.specs.Query.{packs, children}
 use Rattle.combine.specs.Combine.{keptPrefixes}
 use Rattle.combine.proofs.Pieces.{part-length, next-room, both, both-length, written-length, keptFrom, children-none, children-step, query-room, kept-whole, grown-length}
 use Rattle.combine.proofs.writing.write_children.Statement.{statement}

@@ -9,8 +9,8 @@ use mathlib.Core.List.{List, [], _++_}
 use borrow.Author.Needs.{needs}
 use lib.ListN.{length, take, drop}
 use Rattle.bits.specs.Packing.{packedLength}
-use Rattle.bits.proofs.Places.{Grown, grown-start, grown-room, grown-more, grown-end}
-use Rattle.tree.specs.Query.{packs, parts, prefixLength, sparesZero}
+use Rattle.numbers.proofs.Places.{Grown, grown-start, grown-room, grown-more, grown-end}
+use Rattle.query.specs.Query.{packs, parts, prefixLength, sparesZero}
 use Rattle.query.proofs.Parts.{spare-first, spares-rest}
 use Rattle.combine.specs.Combine.{keptPrefixes}
 use Rattle.combine.proofs.Pieces.{part-length, next-room, written-length, keptFrom, list-none, list-step, query-room, query-spares, kept-whole, grown-length}

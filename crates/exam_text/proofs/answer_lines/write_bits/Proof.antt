@@ -7,10 +7,10 @@ use mathlib.Core.Bool.{false}
 use mathlib.Core.List.{List, [], _∷_}
 use borrow.Author.Needs.{needs}
 use lib.ListN.{getD, drop}
-use Rattle.bits.specs.Lists.{digit}
+use Rattle.numbers.specs.Lists.{digit}
 use Rattle.bits.specs.Packing.{bitsOf, unpack}
-use Rattle.bits.specs.Places.{putAt}
-use Rattle.bits.proofs.Places.{Grown, grown-start, grown-room, grown-more}
+use Rattle.numbers.specs.Places.{putAt}
+use Rattle.numbers.proofs.Places.{Grown, grown-start, grown-room, grown-more}
 use Rattle.search.proofs.Pieces.{grown-length}
 use Rattle.exam_text.specs.Characters.{glyph, binary}
 use Rattle.exam_text.proofs.PrintedParts.{all-written}

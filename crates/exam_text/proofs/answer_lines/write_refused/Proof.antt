@@ -5,7 +5,7 @@ use mathlib.Core.Path.{refl, _∙_}
 use mathlib.Core.List.{[], _∷_}
 use borrow.Author.Needs.{needs}
 use lib.ListN.{length}
-use Rattle.bits.proofs.Places.{putAt-overlay}
+use Rattle.numbers.proofs.Places.{putAt-overlay}
 use Rattle.exam_text.specs.Characters.{space, newline, decimal}
 use Rattle.exam_text.specs.Exam.{refusedWord, refusedText}
 use Rattle.exam_text.proofs.PrintedParts.{third-room, fourth-room, four-written}

@@ -7,8 +7,8 @@ use borrow.Author.Needs.{needs}
 use borrow.Fn.Kinds.{In}
 use borrow.Fn.PlainCycle.{Measures, is, falls, and}
 use lib.ListN.{length}
-use Rattle.bits.specs.Places.{putAt}
-use Rattle.bits.proofs.Places.{Grown, grown-start, grown-more, grown-room}
+use Rattle.numbers.specs.Places.{putAt}
+use Rattle.numbers.proofs.Places.{Grown, grown-start, grown-more, grown-room}
 use Rattle.exam_text.specs.Characters.{decimal}
 use Rattle.exam_text.proofs.Decimals.{decimal-one}
 use Rattle.exam_text.proofs.PrintedParts.{all-written}

@@ -3,7 +3,7 @@ use native.Mathlib.Omega.{arith}
 use mathlib.Core.Path.{refl}
 use mathlib.Core.List.{[]}
 use borrow.Author.Needs.{needs}
-use Rattle.bits.proofs.Straight.{stored}
+use Rattle.numbers.proofs.Straight.{stored}
 use Rattle.exam_text.proofs.decimal.put.Statement.{statement}
 use Rattle.exam_text.proofs.decimal.put.Tie as tie
 

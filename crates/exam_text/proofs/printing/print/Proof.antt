@@ -6,7 +6,7 @@ use mathlib.Core.List.{List, [], _++_, append-nil}
 use borrow.Author.Needs.{needs}
 use lib.ListN.{length, length-append}
 use Rattle.bits.specs.Packing.{packedLength}
-use Rattle.bits.proofs.Places.{Grown, grown-start, grown-room, grown-more, putAt-overlay}
+use Rattle.numbers.proofs.Places.{Grown, grown-start, grown-room, grown-more, putAt-overlay}
 use Rattle.exam_text.specs.Printing.{recordLines, listLines, printed}
 use Rattle.exam_text.proofs.PrintedParts.{all-written}
 use Rattle.exam_text.proofs.printing.print.Statement.{statement}

@@ -5,7 +5,7 @@ use mathlib.Core.Path.{_≡_, ap, ap₂, _∙_}
 use mathlib.Core.List.{List}
 use borrow.Author.Needs.{needs}
 use Rattle.bits.specs.Packing.{packedLength}
-use Rattle.tree.specs.Query.{prefixLength, prefixCount}
+use Rattle.query.specs.Query.{prefixLength, prefixCount}
 use Rattle.exam_text.proofs.printing.query_length.Statement.{statement}
 use Rattle.exam_text.proofs.printing.query_length.Tie as tie
 

@@ -5,9 +5,9 @@ use native.Mathlib.Omega.{arith}
 use mathlib.Core.List.{List, _++_}
 use borrow.Author.Needs.{needs}
 use lib.ListN.{length, take, drop}
-use Rattle.bits.specs.Numbers.{fromLittle}
+use Rattle.numbers.specs.Numbers.{fromLittle}
 use Rattle.bits.specs.Packing.{unpack}
-use Rattle.bits.proofs.Places.{Grown, grown-start, grown-room, grown-more}
+use Rattle.numbers.proofs.Places.{Grown, grown-start, grown-room, grown-more}
 use Rattle.search.proofs.Pieces.{next-room, grown-length}
 use Rattle.exam_text.specs.Answer.{prefixLine}
 use Rattle.exam_text.specs.Printing.{entryLines}

@@ -4,9 +4,9 @@ use native.Mathlib.Omega.{arith}
 use mathlib.Core.Path.{_≡_, ap, ap₂, _∙_}
 use borrow.Author.Needs.{needs}
 use lib.ListN.{length, take, drop}
-use Rattle.bits.specs.Numbers.{fromLittle}
+use Rattle.numbers.specs.Numbers.{fromLittle}
 use Rattle.bits.specs.Packing.{unpack}
-use Rattle.bits.proofs.Places.{window-inside}
+use Rattle.numbers.proofs.Places.{window-inside}
 use Rattle.search.proofs.Pieces.{part-length}
 use Rattle.exam_text.specs.Answer.{prefixLine}
 use Rattle.exam_text.proofs.printing.write_entry.Statement.{statement}

@@ -7,7 +7,7 @@ use mathlib.Core.List.{List, _++_}
 use borrow.Author.Needs.{needs}
 use lib.ListN.{length, take, drop}
 use Rattle.bits.specs.Packing.{packedLength, unpack}
-use Rattle.bits.proofs.Places.{Grown, grown-start, grown-room, grown-more}
+use Rattle.numbers.proofs.Places.{Grown, grown-start, grown-room, grown-more}
 use Rattle.search.proofs.Pieces.{next-room, grown-length}
 use Rattle.exam_text.specs.Answer.{heavyLine}
 use Rattle.exam_text.specs.Printing.{listLines}

@@ -6,7 +6,7 @@ use mathlib.Core.Path.{_≡_, refl, ap, _∙_}
 use mathlib.Core.List.{List, _++_}
 use borrow.Author.Needs.{needs}
 use lib.ListN.{length, drop, length-drop}
-use Rattle.bits.proofs.Places.{Grown, grown-start, grown-room, grown-more}
+use Rattle.numbers.proofs.Places.{Grown, grown-start, grown-room, grown-more}
 use Rattle.search.proofs.Pieces.{grown-length}
 use Rattle.exam_text.specs.Printing.{roundLength, recordLines, Rounds}
 use Rattle.exam_text.proofs.PrintedParts.{all-written}

@@ -7,7 +7,7 @@ use mathlib.Core.Path.{_≡_, refl, sym, _∙_}
 use borrow.Author.Needs.{needs}
 use mathlib.Core.Bool.{false}
 use lib.ListN.{getD, take, drop}
-use Rattle.bits.specs.Lists.{digit}
+use Rattle.numbers.specs.Lists.{digit}
 use Rattle.bits.specs.Strings.{Bits}
 use Rattle.bits.specs.Packing.{value}
 use Rattle.bits.proofs.Packed.{value-below}

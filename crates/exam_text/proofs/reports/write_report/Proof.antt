@@ -4,7 +4,7 @@ use Prim.Native.Nat.{ℕ, _*_}
 use native.Mathlib.Omega.{arith}
 use lib.ListN.{length, take}
 use lib.Seq.{length-take-le}
-use Rattle.bits.specs.Places.{putAt}
+use Rattle.numbers.specs.Places.{putAt}
 use Rattle.point.specs.PublicShare.{publicShareLength}
 use Rattle.keymaker.specs.Key.{keyOutcome}
 use Rattle.exam_text.specs.Sheet.{Line}

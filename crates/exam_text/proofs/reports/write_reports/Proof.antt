@@ -7,7 +7,7 @@ use native.Mathlib.Nat.{mul-suc, suc-mul}
 use native.Mathlib.Numerals.{add-one}
 use native.Mathlib.Omega.{arith}
 use lib.ListN.{length, take, drop}
-use Rattle.bits.specs.Places.{putAt}
+use Rattle.numbers.specs.Places.{putAt}
 use Rattle.point.specs.PublicShare.{publicShareLength}
 use Rattle.exam_text.specs.Sheet.{Line}
 use Rattle.exam_text.specs.Reader.{areHex, lineLength}

@@ -6,9 +6,9 @@ use Prim.Native.Nat.{ℕ, _*_, _≤_}
 use native.Mathlib.Omega.{arith}
 use lib.ListN.{length, take, drop}
 use lib.Seq.{length-take-le}
-use Rattle.bits.specs.Places.{overlay}
+use Rattle.numbers.specs.Places.{overlay}
 use Rattle.search.specs.Search.{Lent, lent}
-use Rattle.demands.specs.Honest.{Accepted, recordRead, listRead, Honest}
+use Rattle.honest.specs.Honest.{Accepted, recordRead, listRead, Honest}
 use Rattle.exam_text.specs.Reader.{sheetOf}
 use Rattle.exam_text.specs.Answer.{answerText}
 use Rattle.exam_text.specs.Printing.{printed, Rounds}

@@ -4,10 +4,10 @@ use mathlib.Core.List.{List}
 use Prim.Native.Nat.{ℕ}
 use native.Mathlib.Omega.{arith}
 use lib.ListN.{length, take, length-take}
-use Rattle.bits.specs.Places.{overlay}
+use Rattle.numbers.specs.Places.{overlay}
 use Rattle.search.specs.Search.{Lent, lent}
-use Rattle.demands.specs.Honest.{recordRead, listRead}
-use Rattle.demands.proofs.Reading.{record-whole, list-whole}
+use Rattle.honest.specs.Honest.{recordRead, listRead}
+use Rattle.honest.proofs.Reading.{record-whole, list-whole}
 use Rattle.exam_text.specs.Printing.{printed}
 use borrow.Author.Needs.{needs}
 use Rattle.exam_text.proofs.solving.search_printed.Statement.{statement}

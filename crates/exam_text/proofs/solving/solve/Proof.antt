@@ -6,8 +6,8 @@ use native.Mathlib.Omega.{arith}
 use borrow.Author.Tests.{lt-ltb, le-ltb}
 use lib.ListN.{length, take, replicate, length-replicate}
 use lib.Seq.{take-append-seam}
-use Rattle.bits.specs.Places.{putAt, overlay}
-use Rattle.bits.proofs.Places.{putAt-overlay, overlay-nil}
+use Rattle.numbers.specs.Places.{putAt, overlay}
+use Rattle.numbers.proofs.Places.{putAt-overlay, overlay-nil}
 use Rattle.exam_text.specs.Reader.{sheetOf}
 use Rattle.exam_text.specs.Answer.{answerText}
 use borrow.Author.Needs.{needs}

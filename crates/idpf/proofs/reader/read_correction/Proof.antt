@@ -1,8 +1,8 @@
 -- `idpf::reader::read_correction` meets its contract. Assumes nothing.
 use mathlib.Core.Path.{ap, _∙_}
 use Prim.Native.Nat.{ℕ, _+_, _*_, _%_}
-use Rattle.bits.specs.Numbers.{fromLittle}
-use Rattle.bits.specs.Places.{window}
+use Rattle.numbers.specs.Numbers.{fromLittle}
+use Rattle.numbers.specs.Places.{window}
 use Rattle.point.specs.PublicShare.{binaryDigit, readCorrection}
 use Rattle.idpf.proofs.Descent.{same-correction}
 use borrow.Author.Needs.{needs}

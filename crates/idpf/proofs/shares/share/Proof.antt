@@ -5,8 +5,8 @@ use mathlib.Core.Path.{_≡_, refl, sym, ap, _∙_}
 use mathlib.Core.List.{List, []}
 use borrow.Author.Needs.{needs}
 use lib.ListN.{length}
-use Rattle.bits.specs.Places.{overlay}
-use Rattle.bits.proofs.Places.{overlay-nil}
+use Rattle.numbers.specs.Places.{overlay}
+use Rattle.numbers.proofs.Places.{overlay-nil}
 use Rattle.calls.specs.Causes.{judged}
 use Rattle.idpf.proofs.ShareOutcome.{causes, Ready, ready, outcome-number, outcome-refused, outcome-accepted, never-unknown, bytes-length}
 use Rattle.idpf.proofs.shares.share.Statement.{statement}

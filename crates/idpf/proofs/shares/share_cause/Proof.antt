@@ -10,7 +10,7 @@ use lib.Dec.{ltb}
 use Rattle.calls.specs.Bounds.{lengthOutside, mostReports}
 use Rattle.calls.proofs.Decisions.{in-bounds, below-bounds, above-bounds}
 use Rattle.expander.specs.Expander.{isExpander}
-use Rattle.tree.specs.Query.{isQuery}
+use Rattle.query.specs.Query.{isQuery}
 use Rattle.idpf.specs.Share.{wrongLengths, payloadTooLarge, spareBitsSet}
 use Rattle.idpf.proofs.ShareOutcome.{cause-1, cause-3, cause-4, cause-5, cause-6, cause-7, cause-9, cause-11, no-cause}
 use Rattle.idpf.proofs.shares.share_cause.Statement.{statement}

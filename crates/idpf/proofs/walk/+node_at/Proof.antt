@@ -9,7 +9,7 @@ use borrow.Fn.PlainCycle.{Measures, is, falls, and}
 use Rattle.idpf.proofs.walk.node_at.Reads as node-at
 use Rattle.idpf.proofs.walk.node_at.Kinds as node-at-kinds
 use Rattle.idpf.proofs.walk.+node_at.Lts-node_at as node-at-lts
-use Rattle.bits.proofs.packing.bit_at.Reads as bit-at-reads
+use Rattle.bits.proofs.bit_at.Reads as bit-at-reads
 use Rattle.idpf.proofs.walk.descend.Reads as descend-reads
 use Rattle.idpf.proofs.reader.read_level.Reads as read-level-reads
 use Rattle.idpf.proofs.walk.+node_at.{statement}

@@ -3,7 +3,7 @@ use mathlib.Core.Path.{_≡_, ap, _∙_}
 use mathlib.Core.List.{List}
 use Prim.Native.Nat.{ℕ, _%_}
 use lib.ListN.{take}
-use Rattle.bits.specs.Numbers.{fromLittle}
+use Rattle.numbers.specs.Numbers.{fromLittle}
 use Rattle.group.specs.Modular.{p}
 use Rattle.point.specs.Node.{payloadOf}
 use Rattle.point.specs.Instance.{fieldScheme, scheme}

@@ -3,7 +3,7 @@ use mathlib.Core.Path.{refl, ap, _∙_}
 use mathlib.Core.List.{List}
 use lib.ListN.{take}
 use Prim.Native.Nat.{ℕ, _%_}
-use Rattle.bits.specs.Numbers.{fromLittle}
+use Rattle.numbers.specs.Numbers.{fromLittle}
 use Rattle.group.specs.Modular.{p}
 use Rattle.point.specs.Node.{final, payloadOf}
 use Rattle.point.specs.Instance.{fieldScheme}

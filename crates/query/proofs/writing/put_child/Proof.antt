@@ -5,8 +5,8 @@ use Prim.Native.Nat.{_+_, _≤_}
 use mathlib.Core.Path.{sym, ap}
 use lib.ListN.{length, take}
 use lib.Seq.{length-take-le}
-use Rattle.bits.proofs.Places.{putAt-length}
-use Rattle.bits.proofs.Straight.{inside, outside}
+use Rattle.numbers.proofs.Places.{putAt-length}
+use Rattle.numbers.proofs.Straight.{inside, outside}
 use Rattle.query.proofs.Child.{child-outside, child-inside}
 use Rattle.query.proofs.writing.put_child.Statement.{statement}
 use Rattle.query.proofs.writing.put_child.Tie as tie

@@ -4,8 +4,8 @@ use native.Mathlib.Omega.{arith}
 use Prim.Native.Nat.{_+_, _≤_}
 use mathlib.Core.Path.{ap}
 use lib.ListN.{length}
-use Rattle.bits.proofs.Places.{putAt-length}
-use Rattle.bits.proofs.Straight.{inside, outside}
+use Rattle.numbers.proofs.Places.{putAt-length}
+use Rattle.numbers.proofs.Straight.{inside, outside}
 use Rattle.query.proofs.Child.{all-outside, all-inside}
 use Rattle.query.proofs.writing.put_child_of_all.Statement.{statement}
 use Rattle.query.proofs.writing.put_child_of_all.Tie as tie

@@ -7,7 +7,7 @@ use mathlib.Core.Bool.{Bool}
 use mathlib.Core.List.{List}
 use Rattle.bits.specs.Strings.{_▹_}
 use Rattle.bits.specs.Packing.{pack, unpack}
-use Rattle.bits.specs.Places.{putAt}
+use Rattle.numbers.specs.Places.{putAt}
 use Rattle.query.proofs.Child.{unpack-all}
 use Rattle.query.proofs.writing.write_child.Statement.{statement}
 use Rattle.query.proofs.writing.write_child.Tie as tie

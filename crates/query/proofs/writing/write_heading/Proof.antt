@@ -5,10 +5,10 @@ use Prim.Native.Nat.{ℕ, _+_, _≤_}
 use mathlib.Core.Path.{sym, ap, _∙_}
 use mathlib.Core.List.{List, _++_}
 use lib.ListN.{length}
-use Rattle.bits.specs.Numbers.{big}
-use Rattle.bits.specs.Places.{putAt}
-use Rattle.bits.proofs.Places.{putAt-outside, putAt-more}
-use Rattle.bits.proofs.Straight.{inside, outside}
+use Rattle.numbers.specs.Numbers.{big}
+use Rattle.numbers.specs.Places.{putAt}
+use Rattle.numbers.proofs.Places.{putAt-outside, putAt-more}
+use Rattle.numbers.proofs.Straight.{inside, outside}
 use Rattle.query.proofs.writing.write_heading.Statement.{statement}
 use Rattle.query.proofs.writing.write_heading.Tie as tie
 

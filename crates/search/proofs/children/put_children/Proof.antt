@@ -5,7 +5,7 @@ use mathlib.Core.Path.{_≡_, sym, _∙_}
 use borrow.Author.Needs.{needs}
 use borrow.Author.Tests.{not-true, not-false}
 use lib.ListN.{length, take, drop}
-use Rattle.bits.proofs.Places.{putAt-nil}
+use Rattle.numbers.proofs.Places.{putAt-nil}
 use Rattle.search.proofs.Pieces.{part-length, both-length, put-both}
 use Rattle.search.proofs.children.put_children.Statement.{statement}
 use Rattle.search.proofs.children.put_children.Tie as tie

@@ -8,12 +8,11 @@ use mathlib.Core.List.{List, [], _++_}
 use borrow.Author.Needs.{needs}
 use lib.ListN.{length, take, drop}
 use lib.Dec.{leb}
-use Rattle.bits.specs.Numbers.{fromLittle}
+use Rattle.numbers.specs.Numbers.{fromLittle}
 use Rattle.bits.specs.Packing.{packedLength, unpack}
-use Rattle.bits.specs.Places.{window}
-use Rattle.bits.proofs.Places.{Grown, grown-start, grown-room, grown-more, grown-end}
-use Rattle.tree.specs.Query.{packs}
-use Rattle.tree.specs.Search.{children}
+use Rattle.numbers.specs.Places.{window}
+use Rattle.numbers.proofs.Places.{Grown, grown-start, grown-room, grown-more, grown-end}
+use Rattle.query.specs.Query.{packs, children}
 use Rattle.search.specs.Level.{both}
 use Rattle.search.proofs.Pieces.{part-length, next-room, both-length, reachingAt, children-none, children-step, written-length, grown-length, grown-part, grown-window}
 use Rattle.search.proofs.children.write_children.Statement.{statement}

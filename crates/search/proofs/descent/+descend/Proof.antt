@@ -9,13 +9,13 @@ use borrow.Fn.PlainCycle.{Measures, is, falls, and}
 use lib.ListN.{length}
 use Rattle.bits.specs.Strings.{Bits}
 use Rattle.bits.specs.Packing.{packedLength}
-use Rattle.bits.proofs.Places.{putAt-length}
+use Rattle.numbers.proofs.Places.{putAt-length}
 use Rattle.search.specs.Search.{totalOf}
 use Rattle.search.proofs.Turn.{total-small, list-asked, at-last, at-end, not-next, few, next-asked, level-asked, at-next}
 use Rattle.search.proofs.descent.descend.Reads as descend
 use Rattle.search.proofs.descent.descend.Kinds as descend-kinds
 use Rattle.search.proofs.descent.+descend.Lts-descend as lts
-use Rattle.bits.proofs.packing.packed_length.Reads as packed-length-reads
+use Rattle.bits.proofs.packed_length.Reads as packed-length-reads
 use Rattle.search.proofs.children.write_next.Reads as write-next-reads
 use Rattle.search.proofs.descent.finish.Reads as finish-reads
 use Rattle.search.proofs.descent.next_fits.Reads as next-fits-reads

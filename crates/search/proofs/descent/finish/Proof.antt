@@ -6,7 +6,7 @@ use mathlib.Core.Path.{_≡_, refl, ap, _∙_}
 use mathlib.Core.Logic.{inl, inr}
 use borrow.Author.Needs.{needs}
 use lib.ListN.{length}
-use Rattle.tree.specs.Query.{packs}
+use Rattle.query.specs.Query.{packs}
 use Rattle.search.proofs.Pieces.{reachingAt}
 use Rattle.search.proofs.descent.finish.Statement.{statement}
 use Rattle.search.proofs.descent.finish.Tie as tie

@@ -9,8 +9,8 @@ use mathlib.Core.List.{List, [], _++_}
 use borrow.Author.Needs.{needs}
 use lib.ListN.{length, take, drop}
 use Rattle.bits.specs.Packing.{packedLength, pack, unpack}
-use Rattle.bits.proofs.Places.{Grown, grown-start, grown-room, grown-more, grown-end}
-use Rattle.tree.specs.Query.{packs, parts}
+use Rattle.numbers.proofs.Places.{Grown, grown-start, grown-room, grown-more, grown-end}
+use Rattle.query.specs.Query.{packs, parts}
 use Rattle.search.specs.Level.{Packed}
 use Rattle.search.proofs.Pieces.{part-length, next-room, packed-step, reachingAt, list-none, list-step, written-length, grown-length}
 use Rattle.search.proofs.heavy.write_list.Statement.{statement}

@@ -4,7 +4,7 @@ use mathlib.Core.Path.{_∙_}
 use borrow.Author.Needs.{needs}
 use lib.Dec.{leb}
 use Rattle.tree.specs.Search.{isKept}
-use Rattle.tree.proofs.Lists.{digit-le}
+use Rattle.numbers.proofs.Lists.{digit-le}
 use Rattle.search.specs.Search.{totalOf}
 use Rattle.search.proofs.LevelTotals.{put-two, count-two}
 use Rattle.search.proofs.sums.write_total_pair.Statement.{statement}

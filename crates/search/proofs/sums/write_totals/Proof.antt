@@ -8,7 +8,7 @@ use borrow.Author.Needs.{needs}
 use lib.ListN.{length}
 use lib.Dec.{leb}
 use Rattle.bits.specs.Strings.{Bits}
-use Rattle.bits.proofs.Places.{putAt-length}
+use Rattle.numbers.proofs.Places.{putAt-length}
 use Rattle.tree.specs.Search.{isKept}
 use Rattle.search.specs.Search.{totalOf}
 use Rattle.search.proofs.LevelTotals.{Standing, standing-start, standing-length, standing-end, next-inside, totals-room, standing-more, standing-one}

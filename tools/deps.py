@@ -1,0 +1,28 @@
+#!/usr/bin/env python3
+"""deps.py: holds crates.txt to what the crates' files name. Prints each dependency that no file names and each that is missing; status 1 if any."""
+import glob
+import re
+import sys
+
+wrong = 0
+crates = {}
+for line in open("crates.txt"):
+    line = line.split("#")[0].strip()
+    if line:
+        name, deps = line.split(":")
+        crates[name.strip()] = deps.split()
+known = set(crates) | {"io", "libc", "os", "check", "bytes"}
+for name, deps in crates.items():
+    text = ""
+    for part in ("src/**/*.rt", "specs/**/*.antt", "proofs/**/*.antt"):
+        for path in glob.glob("crates/%s/%s" % (name, part), recursive=True):
+            text += re.sub(r"(?m)(//|--).*$", "", open(path).read())
+    named = {d for d in known if re.search(r"Rattle.%s[.·]|(?<![\w:])%s::" % (d, d), text)} - {name}
+    for d in deps:
+        if d not in named:
+            print("%s: no file names %s" % (name, d))
+            wrong = 1
+    for d in sorted(named - set(deps)):
+        print("%s: %s is missing" % (name, d))
+        wrong = 1
+sys.exit(wrong)
