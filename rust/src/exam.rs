@@ -1,6 +1,6 @@
 //! The answer to an exam text.
 
-use crate::{accepted, calls, written, Refusal};
+use crate::{accepted, written, Refusal};
 
 /// Space that is enough for the answer to every exam text: 64 lines for each of 32 prefix lengths, and 32 heavy strings.
 ///
@@ -47,6 +47,6 @@ pub fn exam(text: &[u8]) -> Result<Vec<u8>, Refusal> {
 /// # Ok::<(), Refusal>(())
 /// ```
 pub fn exam_into(text: &[u8], out: &mut [u8]) -> Result<usize, Refusal> {
-    let reply = calls::exam(text, out);
+    let reply = tally_sys::exam(text, out);
     accepted(reply.number, reply.length, out.len())
 }

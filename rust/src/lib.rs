@@ -9,9 +9,9 @@
 //! wrote; bytes past them are unchanged. [`public_share_length`], [`share_length`], [`answer_space`], [`record_space`],
 //! [`list_space`] and [`EXAM_SPACE`] say how much space to lend.
 //!
-//! What the calls compute, and when they refuse, is proved of the library. This crate turns slices into pointers and lengths, numbers into enums,
-//! and reads what was written; that part is plain Rust. n and t are 64-bit numbers, as in the library, so that each wrong value is judged and
-//! none is cut.
+//! What the calls compute, and when they refuse, is proved of the library. The crate `tally-sys` declares it and turns slices into pointers and
+//! lengths; this one turns numbers into enums and reads what was written; both are plain Rust. n and t are 64-bit numbers, as in the library, so
+//! that each wrong value is judged and none is cut.
 //!
 //! # How bytes are laid out
 //!
@@ -43,10 +43,8 @@
 //! ```
 
 #![deny(missing_docs)]
-#![deny(unsafe_code)]
+#![forbid(unsafe_code)]
 
-#[allow(unsafe_code)]
-mod calls;
 mod exam;
 mod read;
 mod refusal;
@@ -252,7 +250,7 @@ pub fn block_into(
     j: u64,
     out: &mut [u8],
 ) -> Result<usize, Refusal> {
-    let reply = calls::block(expander.number(), seed, j, out);
+    let reply = tally_sys::block(expander.number(), seed, j, out);
     accepted(reply.number, reply.length, out.len())
 }
 
@@ -298,7 +296,7 @@ pub fn make_key_into(
     seed1: &Seed,
     out: &mut [u8],
 ) -> Result<usize, Refusal> {
-    let reply = calls::key(n, expander.number(), string, seed0, seed1, out);
+    let reply = tally_sys::key(n, expander.number(), string, seed0, seed1, out);
     accepted(reply.number, reply.length, out.len())
 }
 
@@ -351,7 +349,15 @@ pub fn share_into(
     out: &mut [u8],
 ) -> Result<usize, Refusal> {
     let is_one = server == Server::One;
-    let reply = calls::share(n, expander.number(), is_one, reports, query, out);
+    let reply = tally_sys::share(
+        n,
+        expander.number(),
+        is_one,
+        reports.seeds.as_flattened(),
+        reports.public_shares,
+        query,
+        out,
+    );
     accepted(reply.number, reply.length, out.len())
 }
 
@@ -409,7 +415,7 @@ pub fn combine_into(
     share1: &[u8],
     out: &mut [u8],
 ) -> Result<Answer<usize>, Refusal> {
-    let reply = calls::combine(n, t, query, share0, share1, out);
+    let reply = tally_sys::combine(n, t, query, share0, share1, out);
     let length = accepted(reply.number, reply.length, out.len())?;
     match reply.kind {
         1 => Ok(Answer::Next(length)),
@@ -473,7 +479,17 @@ pub fn search_into(
     record: &mut [u8],
     list: &mut [u8],
 ) -> Result<Found<usize>, Refusal> {
-    let reply = calls::search(n, t, expander.number(), zero, one, record, list);
+    let reply = tally_sys::search(
+        n,
+        t,
+        expander.number(),
+        zero.seeds.as_flattened(),
+        zero.public_shares,
+        one.seeds.as_flattened(),
+        one.public_shares,
+        record,
+        list,
+    );
     Ok(Found {
         record: accepted(reply.number, reply.record_length, record.len())?,
         list: accepted(reply.number, reply.list_length, list.len())?,

@@ -24,7 +24,6 @@ pub use exam::{exam, exam_into};
 pub use search::search;
 
 /// Answer of a call that writes one space.
-#[repr(C)]
 #[derive(Clone, Copy, Debug, PartialEq, Eq)]
 pub struct Reply {
     pub number: u64,
@@ -32,7 +31,6 @@ pub struct Reply {
 }
 
 /// Answer of combining; kind 0 refused, 1 next query, 2 list, 3 ended.
-#[repr(C)]
 #[derive(Clone, Copy, Debug, PartialEq, Eq)]
 pub struct Combined {
     pub number: u64,
@@ -41,7 +39,6 @@ pub struct Combined {
 }
 
 /// Answer of the whole search.
-#[repr(C)]
 #[derive(Clone, Copy, Debug, PartialEq, Eq)]
 pub struct Found {
     pub number: u64,

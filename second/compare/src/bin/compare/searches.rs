@@ -1,11 +1,11 @@
 //! Comparison of the whole search: random calls, the fixed ones of `search_cases`, and those of
 //! `search_demands`; number, lengths, both areas and the lent inputs.
 
-use crate::calls;
-use crate::make::*;
 use crate::search_cases;
 use crate::search_demands;
-use crate::tally::{shown, Outcome, Plan, Space, Tally};
+use compare::calls;
+use compare::make::*;
+use compare::tally::{shown, Outcome, Plan, Space, Tally};
 use second::field::P;
 use second::keys::public_share_size;
 use second::rng::Rng;

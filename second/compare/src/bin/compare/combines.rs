@@ -1,10 +1,10 @@
 //! Comparison of combining.
 
-use crate::calls;
 use crate::combine_cases;
-use crate::make::*;
-use crate::queries;
-use crate::tally::{shown, Outcome, Plan, Space, Tally};
+use compare::calls;
+use compare::make::*;
+use compare::queries;
+use compare::tally::{shown, Outcome, Plan, Space, Tally};
 use second::field::{add, negate, reduce, P};
 use second::rng::Rng;
 

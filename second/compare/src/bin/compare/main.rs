@@ -4,50 +4,27 @@
 //! Arguments, all optional: seed=S calls=N spoil=K trace
 
 #[cfg(feature = "block")]
-#[path = "compare/blocks.rs"]
 mod blocks;
-#[path = "compare/calls.rs"]
-mod calls;
 #[cfg(feature = "combine")]
-#[path = "compare/combine_cases.rs"]
 mod combine_cases;
 #[cfg(feature = "combine")]
-#[path = "compare/combines.rs"]
 mod combines;
 #[cfg(feature = "exam")]
-#[path = "compare/exam_cases.rs"]
 mod exam_cases;
 #[cfg(feature = "exam")]
-#[path = "compare/exams.rs"]
 mod exams;
 #[cfg(feature = "keys")]
-#[path = "compare/keys.rs"]
 mod keys;
-#[allow(dead_code)]
-#[path = "compare/make.rs"]
-mod make;
-#[allow(dead_code)]
-#[path = "compare/queries.rs"]
-mod queries;
 #[cfg(feature = "search")]
-#[path = "compare/search_cases.rs"]
 mod search_cases;
 #[cfg(feature = "search")]
-#[path = "compare/search_demands.rs"]
 mod search_demands;
 #[cfg(feature = "search")]
-#[path = "compare/searches.rs"]
 mod searches;
 #[cfg(feature = "keys")]
-#[path = "compare/shares.rs"]
 mod shares;
-#[cfg(feature = "exam")]
-#[path = "compare/sheets.rs"]
-mod sheets;
-#[allow(dead_code)]
-#[path = "compare/tally.rs"]
-mod tally;
 
+use compare::{calls, tally};
 use std::process::ExitCode;
 
 /// The numbers each call must have been seen to return.
@@ -91,7 +68,7 @@ fn main() -> ExitCode {
     }
     println!("seed={seed} calls={count} of each kind, special and fixed calls besides");
     if NUMBERS.iter().all(|(_, on, _)| !on) {
-        eprintln!("build with --features block, keys, combine, search, exam or selftest");
+        eprintln!("build with --features block, keys, combine, search or exam");
         return ExitCode::from(2);
     }
     println!("compared with: {}", calls::NAME);

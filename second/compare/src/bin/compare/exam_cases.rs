@@ -1,6 +1,6 @@
 //! Fixed exam texts, each with the number that document 01 says and its answer where that is 0.
 
-use crate::sheets::Sheet;
+use compare::sheets::Sheet;
 use second::rng::Rng;
 
 /// What takes each text: its name, its number, its answer, the text.

@@ -1,8 +1,8 @@
 //! Comparison of the expanders' blocks.
 
-use crate::calls;
-use crate::make::*;
-use crate::tally::{shown, Outcome, Plan, Space, Tally};
+use compare::calls;
+use compare::make::*;
+use compare::tally::{shown, Outcome, Plan, Space, Tally};
 use second::rng::Rng;
 
 const DAMAGES: [&str; 3] = ["expander", "seed length", "room"];

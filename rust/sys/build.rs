@@ -1,4 +1,4 @@
-//! Shows the linker where the proved library lies: `../target/staticlib`, or the folder that `CAPI_FOLDER` names.
+//! Shows the linker where the proved library lies: `target/staticlib` at the top of the repository, or the folder that `CAPI_FOLDER` names.
 
 use std::env;
 use std::path::PathBuf;
@@ -7,7 +7,7 @@ use std::process::exit;
 fn main() {
     println!("cargo:rerun-if-changed=build.rs");
     println!("cargo:rerun-if-env-changed=CAPI_FOLDER");
-    let home = PathBuf::from(env::var_os("CARGO_MANIFEST_DIR").unwrap_or_default());
+    let home = PathBuf::from(env::var_os("CARGO_MANIFEST_DIR").unwrap_or_default()).join("..");
     let folder = match env::var_os("CAPI_FOLDER") {
         Some(named) => home.join(named),
         None => home.join("../target/staticlib"),

@@ -1,7 +1,7 @@
 //! Each call made once and judged, with the numbers that it may return.
 
-use crate::calls;
 use crate::judged::{Call, Judged};
+use compare::calls;
 use second::rng::Rng;
 
 /// The generator and the judge that every call is given.

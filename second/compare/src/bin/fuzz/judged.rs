@@ -1,6 +1,6 @@
 //! One call made and judged: its number, its lengths, and every byte lent to it.
 
-use crate::tally::{shown, Space};
+use compare::tally::{shown, Space};
 use second::rng::Rng;
 use std::collections::BTreeMap;
 use std::hint::black_box;

@@ -1,8 +1,8 @@
 //! Comparison of the key maker.
 
-use crate::calls;
-use crate::make::*;
-use crate::tally::{shown, Outcome, Plan, Space, Tally};
+use compare::calls;
+use compare::make::*;
+use compare::tally::{shown, Outcome, Plan, Space, Tally};
 use second::keys::public_share_size;
 use second::query::pack;
 use second::rng::Rng;

@@ -4,9 +4,9 @@
 //! any size, light parents of heavy children; every byte of a report changed; hostile reports;
 //! every cause alone, in twos and with all higher ones; the largest counts and next queries.
 
-use crate::make::*;
 use crate::searches::{Call, LIST, RECORD};
-use crate::tally::Outcome;
+use compare::make::*;
+use compare::tally::Outcome;
 use second::field::{add, negate, read, P};
 use second::keys::{head_size, public_share_size};
 use second::query::{first, pack, packed_size, write};

@@ -1,9 +1,9 @@
 //! Comparison of a server's share.
 
-use crate::calls;
-use crate::make::*;
-use crate::queries;
-use crate::tally::{shown, Outcome, Plan, Space, Tally};
+use compare::calls;
+use compare::make::*;
+use compare::queries;
+use compare::tally::{shown, Outcome, Plan, Space, Tally};
 use second::field::P;
 use second::keys::public_share_size;
 use second::rng::Rng;

@@ -3,30 +3,12 @@
 //!
 //! Arguments, all optional: seed=S rounds=N from=R seconds=T trace
 
-#[path = "compare/calls.rs"]
-mod calls;
-#[path = "fuzz/inputs.rs"]
 mod inputs;
-#[path = "fuzz/judged.rs"]
 mod judged;
-#[allow(dead_code)]
-#[path = "compare/make.rs"]
-mod make;
-#[path = "fuzz/making.rs"]
 mod making;
-#[allow(dead_code)]
-#[path = "compare/queries.rs"]
-mod queries;
-#[path = "fuzz/round.rs"]
 mod round;
-#[cfg(feature = "exam")]
-#[allow(dead_code)]
-#[path = "compare/sheets.rs"]
-mod sheets;
-#[allow(dead_code)]
-#[path = "compare/tally.rs"]
-mod tally;
 
+use compare::calls;
 use std::process::ExitCode;
 use std::time::{Duration, Instant};
 

@@ -1,11 +1,10 @@
-//! The proved library's functions, on numbers and slices. This is the only module with unsafe code.
+//! The functions of the proved library libcapi.a, declared once for all Rust that calls them, and the same functions on numbers and slices.
 //!
-//! Each block below is sound for the same reasons. The declarations agree with the library's: a slice is a pointer and a length, and the structs
-//! have C's layout. A slice's pointer is never null, its length is right, and the borrow lasts for the whole call. An area that is written
-//! comes from `&mut`, so it overlaps nothing else. The library is proved, for all inputs, to do nothing undefined and to return; it borrows its
-//! slices for the call alone, and what it returns are numbers. The proof does not cover the compiler's back end, nor these declarations.
-
-use crate::Reports;
+//! Each unsafe block below is sound for the same reasons. The declarations agree with the library's: a slice is a pointer and a length, and the
+//! structs have C's layout. A slice's pointer is never null, its length is right, and the borrow lasts for the whole call. An area that is
+//! written comes from `&mut`, so it overlaps nothing else. The library is proved, for all inputs, to do nothing undefined and to return; it
+//! borrows its slices for the call alone, and what it returns are numbers. The proof does not cover the compiler's back end, nor these
+//! declarations.
 
 /// The number of a refusal, or 0, and how many bytes were written.
 #[repr(C)]
@@ -27,14 +26,14 @@ pub struct CombineReply {
 /// The number of a refusal, or 0, and how many bytes of the record and of the list were written.
 #[repr(C)]
 #[derive(Clone, Copy, Debug, PartialEq, Eq)]
-pub struct SearchReply {
+pub struct Found {
     pub number: u64,
     pub record_length: u64,
     pub list_length: u64,
 }
 
 mod library {
-    use super::{CombineReply, Reply, SearchReply};
+    use super::{CombineReply, Found, Reply};
 
     #[link(name = "capi", kind = "static")]
     extern "C" {
@@ -103,7 +102,7 @@ mod library {
             record_length: usize,
             list: *mut u8,
             list_length: usize,
-        ) -> SearchReply;
+        ) -> Found;
 
         pub fn tally_exam(
             text: *const u8,
@@ -115,6 +114,7 @@ mod library {
 }
 
 /// Block `j` of a seed, into `block`.
+#[inline]
 pub fn block(expander: u64, seed: &[u8], j: u64, block: &mut [u8]) -> Reply {
     // SAFETY: each pointer and length come from one live slice, and `block` is borrowed mutably.
     unsafe {
@@ -130,6 +130,7 @@ pub fn block(expander: u64, seed: &[u8], j: u64, block: &mut [u8]) -> Reply {
 }
 
 /// The public share of a packed string, into `public_share`.
+#[inline]
 pub fn key(
     n: u64,
     expander: u64,
@@ -156,15 +157,16 @@ pub fn key(
 }
 
 /// A server's share for a query, into `share`.
+#[inline]
 pub fn share(
     n: u64,
     expander: u64,
     server: bool,
-    reports: Reports<'_>,
+    seeds: &[u8],
+    public_shares: &[u8],
     query: &[u8],
     share: &mut [u8],
 ) -> Reply {
-    let seeds = reports.seeds.as_flattened();
     // SAFETY: each pointer and length come from one live slice, and `share` is borrowed mutably.
     unsafe {
         library::tally_share(
@@ -173,8 +175,8 @@ pub fn share(
             server,
             seeds.as_ptr(),
             seeds.len(),
-            reports.public_shares.as_ptr(),
-            reports.public_shares.len(),
+            public_shares.as_ptr(),
+            public_shares.len(),
             query.as_ptr(),
             query.len(),
             share.as_mut_ptr(),
@@ -184,6 +186,7 @@ pub fn share(
 }
 
 /// The next query or the list of two shares for a query, into `out`.
+#[inline]
 pub fn combine(
     n: u64,
     t: u64,
@@ -210,16 +213,19 @@ pub fn combine(
 }
 
 /// The record and the list of a whole search, into their areas.
+#[inline]
+#[allow(clippy::too_many_arguments)]
 pub fn search(
     n: u64,
     t: u64,
     expander: u64,
-    zero: Reports<'_>,
-    one: Reports<'_>,
+    seeds0: &[u8],
+    public_shares0: &[u8],
+    seeds1: &[u8],
+    public_shares1: &[u8],
     record: &mut [u8],
     list: &mut [u8],
-) -> SearchReply {
-    let (seeds0, seeds1) = (zero.seeds.as_flattened(), one.seeds.as_flattened());
+) -> Found {
     // SAFETY: each pointer and length come from one live slice; `record` and `list` are borrowed mutably, so they are two areas.
     unsafe {
         library::tally_search(
@@ -228,12 +234,12 @@ pub fn search(
             expander,
             seeds0.as_ptr(),
             seeds0.len(),
-            zero.public_shares.as_ptr(),
-            zero.public_shares.len(),
+            public_shares0.as_ptr(),
+            public_shares0.len(),
             seeds1.as_ptr(),
             seeds1.len(),
-            one.public_shares.as_ptr(),
-            one.public_shares.len(),
+            public_shares1.as_ptr(),
+            public_shares1.len(),
             record.as_mut_ptr(),
             record.len(),
             list.as_mut_ptr(),
@@ -243,10 +249,8 @@ pub fn search(
 }
 
 /// The answer to an exam text, into `out`.
+#[inline]
 pub fn exam(text: &[u8], out: &mut [u8]) -> Reply {
     // SAFETY: each pointer and length come from one live slice, and `out` is borrowed mutably.
     unsafe { library::tally_exam(text.as_ptr(), text.len(), out.as_mut_ptr(), out.len()) }
 }
-
-#[cfg(test)]
-mod tests;

@@ -1,11 +1,7 @@
 //! What only the library's own numbers and slices can meet.
 
-use super::*;
-
-const NONE: Reports<'static> = Reports {
-    seeds: &[],
-    public_shares: &[],
-};
+use tally::FIRST_QUERY;
+use tally_sys::{block, key, search, share, Reply};
 
 // The safe functions take an `Expander`, so the library's own 3 can only be met here.
 #[test]
@@ -22,11 +18,11 @@ fn an_unknown_expander_is_refused_with_3_and_writes_nothing() {
             refused
         );
         assert_eq!(
-            share(1, expander, false, NONE, &crate::FIRST_QUERY, &mut space),
+            share(1, expander, false, &[], &[], &FIRST_QUERY, &mut space),
             refused
         );
         let mut list = [7; 8];
-        let reply = search(1, 1, expander, NONE, NONE, &mut space, &mut list);
+        let reply = search(1, 1, expander, &[], &[], &[], &[], &mut space, &mut list);
         assert_eq!(
             (reply.number, reply.record_length, reply.list_length),
             (3, 0, 0)

@@ -1,7 +1,7 @@
 //! Fixed calls of combining, each with the number, kind and length it must give.
 
 use crate::combines::Call;
-use crate::queries;
+use compare::queries;
 use second::field::{add, negate, P};
 use second::query::{first, pack, packed_size, write};
 use std::collections::BTreeSet;

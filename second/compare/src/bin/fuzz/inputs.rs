@@ -1,6 +1,6 @@
 //! Random bytes, lengths and numbers, and honest inputs changed at random.
 
-use crate::make::{any_number, seed};
+use compare::make::{any_number, seed};
 use second::rng::Rng;
 
 /// A length: the right one, or any from 0 to a few hundred, or now and then a large one.

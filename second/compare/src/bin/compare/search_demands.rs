@@ -1,8 +1,8 @@
 //! Demands 2 and 3 by brute force on the library's answers for honest collections.
 
-use crate::make::*;
 use crate::searches::{compare, Call, LIST, RECORD};
-use crate::tally::{Plan, Tally};
+use compare::make::*;
+use compare::tally::{Plan, Tally};
 use second::brute;
 use second::query::{pack, write};
 use second::rng::Rng;

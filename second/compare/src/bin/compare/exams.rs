@@ -1,11 +1,11 @@
 //! Comparison of the exam: every change of one byte in some sheets, the fixed texts of
 //! `exam_cases`, and random sheets, whole and damaged; number, length, all of `out` and the text.
 
-use crate::calls;
 use crate::exam_cases;
-use crate::make::{room, short_room};
-use crate::sheets::{change_byte, wild_text, Sheet};
-use crate::tally::{Outcome, Plan, Space, Tally};
+use compare::calls;
+use compare::make::{room, short_room};
+use compare::sheets::{change_byte, wild_text, Sheet};
+use compare::tally::{Outcome, Plan, Space, Tally};
 use second::exam::MOST_ANSWER;
 use second::rng::Rng;
 use std::hint::black_box;

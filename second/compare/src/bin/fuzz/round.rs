@@ -2,11 +2,11 @@
 
 use crate::inputs::{bytes, length, number, perhaps, seeds};
 use crate::judged::Judged;
-use crate::make::{any_number, pass_six_and_seven};
 use crate::making::Fuzz;
-use crate::queries;
+use compare::make::{any_number, pass_six_and_seven};
+use compare::queries;
 #[cfg(feature = "exam")]
-use crate::sheets::{change_byte, wild_text, Sheet};
+use compare::sheets::{change_byte, wild_text, Sheet};
 use second::keys::public_share_size;
 use second::query::{pack, packed_size, Query};
 use second::rng::Rng;

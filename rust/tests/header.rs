@@ -1,0 +1,101 @@
+//! The C header and the Rust declarations say the same: the structs with their fields, and the functions with their parameters, in order.
+
+const HEADER: &str = include_str!("../../include/tally.h");
+const DECLARED: &str = include_str!("../sys/src/lib.rs");
+
+/// A name, what it has in it, and for a function what it returns.
+type Declared = (String, Vec<String>, String);
+
+/// The text without line comments and with single spaces.
+fn plain(text: &str) -> String {
+    let lines = text.lines().filter_map(|line| line.split("//").next());
+    let words: Vec<&str> = lines.flat_map(str::split_whitespace).collect();
+    words.join(" ")
+}
+
+/// What follows `open`, as far as `close`, at each place.
+fn between<'a>(text: &'a str, open: &'a str, close: &'a str) -> impl Iterator<Item = &'a str> {
+    let rests = text.split(open).skip(1);
+    rests.filter_map(move |rest| Some(rest.split_once(close)?.0))
+}
+
+/// The parts of a list, each read by `read`.
+fn parts(list: &str, mark: char, read: impl Fn(&str) -> String) -> Vec<String> {
+    let parts = list.split(mark).map(str::trim);
+    parts.filter(|part| !part.is_empty()).map(read).collect()
+}
+
+/// A C type as Rust names it; `tally_combine_reply` is `CombineReply`.
+fn c_type(name: &str) -> String {
+    let known = match name {
+        "uint64_t" => "u64",
+        "size_t" => "usize",
+        "bool" => "bool",
+        "uint8_t *" => "*mut u8",
+        "const uint8_t *" => "*const u8",
+        _ => {
+            let words = name.strip_prefix("tally_").expect(name).split('_');
+            return words.map(|word| word[..1].to_uppercase() + &word[1..]).collect();
+        }
+    };
+    known.to_string()
+}
+
+/// A C field or parameter as Rust writes it.
+fn c_part(part: &str) -> String {
+    let start = part.rfind([' ', '*']).expect(part) + 1;
+    format!("{}: {}", &part[start..], c_type(part[..start].trim_end()))
+}
+
+fn c_structs(text: &str) -> Vec<Declared> {
+    let structs = between(text, "typedef struct ", "}").map(|found| {
+        let (name, fields) = found.split_once(" {").expect(found);
+        (c_type(name), parts(fields, ';', c_part), String::new())
+    });
+    structs.collect()
+}
+
+fn c_functions(text: &str) -> Vec<Declared> {
+    let ends = text.split(';').map(str::trim);
+    let functions = ends.filter(|found| found.starts_with("tally_")).map(|found| {
+        let (heading, parameters) = found.split_once('(').expect(found);
+        let (returned, name) = heading.split_once(' ').expect(heading);
+        let parameters = parts(parameters.trim_end_matches(')'), ',', c_part);
+        (name.to_string(), parameters, c_type(returned))
+    });
+    functions.collect()
+}
+
+fn rust_structs(text: &str) -> Vec<Declared> {
+    let start = "#[repr(C)] #[derive(Clone, Copy, Debug, PartialEq, Eq)] pub struct ";
+    let structs = between(text, start, "}").map(|found| {
+        let (name, fields) = found.split_once(" {").expect(found);
+        let fields = parts(fields, ',', |field| field.replace("pub ", ""));
+        (name.to_string(), fields, String::new())
+    });
+    structs.collect()
+}
+
+fn rust_functions(text: &str) -> Vec<Declared> {
+    let functions = between(text, "pub fn tally_", ";").map(|found| {
+        let (name, rest) = found.split_once('(').expect(found);
+        let (parameters, returned) = rest.split_once(") -> ").expect(found);
+        let parameters = parts(parameters, ',', str::to_string);
+        (format!("tally_{name}"), parameters, returned.to_string())
+    });
+    functions.collect()
+}
+
+#[test]
+fn the_structs_agree() {
+    let declared = rust_structs(&plain(DECLARED));
+    assert_eq!(declared.len(), 3);
+    assert_eq!(c_structs(&plain(HEADER)), declared);
+}
+
+#[test]
+fn the_functions_agree() {
+    let declared = rust_functions(&plain(DECLARED));
+    assert_eq!(declared.len(), 6);
+    assert_eq!(c_functions(&plain(HEADER)), declared);
+}
