@@ -35,7 +35,9 @@ fn c_type(name: &str) -> String {
         "const uint8_t *" => "*const u8",
         _ => {
             let words = name.strip_prefix("tally_").expect(name).split('_');
-            return words.map(|word| word[..1].to_uppercase() + &word[1..]).collect();
+            return words
+                .map(|word| word[..1].to_uppercase() + &word[1..])
+                .collect();
         }
     };
     known.to_string()
@@ -57,12 +59,14 @@ fn c_structs(text: &str) -> Vec<Declared> {
 
 fn c_functions(text: &str) -> Vec<Declared> {
     let ends = text.split(';').map(str::trim);
-    let functions = ends.filter(|found| found.starts_with("tally_")).map(|found| {
-        let (heading, parameters) = found.split_once('(').expect(found);
-        let (returned, name) = heading.split_once(' ').expect(heading);
-        let parameters = parts(parameters.trim_end_matches(')'), ',', c_part);
-        (name.to_string(), parameters, c_type(returned))
-    });
+    let functions = ends
+        .filter(|found| found.starts_with("tally_"))
+        .map(|found| {
+            let (heading, parameters) = found.split_once('(').expect(found);
+            let (returned, name) = heading.split_once(' ').expect(heading);
+            let parameters = parts(parameters.trim_end_matches(')'), ',', c_part);
+            (name.to_string(), parameters, c_type(returned))
+        });
     functions.collect()
 }
 

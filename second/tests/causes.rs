@@ -183,35 +183,18 @@ fn causes_of_search() {
     assert_eq!(call(3, 1, 1, &SEED, &spare, &SEED, &large), 6);
     assert_eq!(call(3, 1, 1, &SEED, &public, &SEED, &spare), 7);
     assert_eq!(call(3, 1, 1, &SEED, &public, &SEED, &other), 8);
+    let into = |record: &mut [u8], list: &mut [u8]| {
+        search(3, 1, 1, &SEED, &public, &[4; 16], &public, record, list)
+    };
     let mut record = [0xee; 200];
-    let found = search(
-        3,
-        1,
-        1,
-        &SEED,
-        &public,
-        &[4; 16],
-        &public,
-        &mut record,
-        &mut [],
-    );
+    let found = into(&mut record, &mut []);
     let refused = Found {
         number: 11,
         record_length: 0,
         list_length: 0,
     };
     assert_eq!((found, record), (refused, [0; 200]));
-    let found = search(
-        3,
-        1,
-        1,
-        &SEED,
-        &public,
-        &[4; 16],
-        &public,
-        &mut record,
-        &mut [0; 1],
-    );
+    let found = into(&mut record, &mut [0; 1]);
     assert_eq!(
         (found.number, found.record_length, found.list_length),
         (0, 72, 1)

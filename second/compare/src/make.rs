@@ -222,3 +222,19 @@ pub fn spare_string(rng: &mut Rng, string: &mut [u8], n: usize) {
         string[last] |= 1 << rng.below(spare);
     }
 }
+
+/// Strings with many in common.
+pub fn strings(rng: &mut Rng, n: usize, count: usize) -> Vec<Vec<bool>> {
+    let mut all: Vec<Vec<bool>> = Vec::new();
+    for i in 0..count {
+        let mut string = rng.bits(n);
+        if i > 0 && rng.below(4) != 0 {
+            string = all[rng.below(i)].clone();
+            for bit in string.iter_mut().skip(rng.below(2 * n)) {
+                *bit = rng.coin();
+            }
+        }
+        all.push(string);
+    }
+    all
+}

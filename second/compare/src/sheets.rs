@@ -1,6 +1,6 @@
 //! Sheets for the exam: their text, and their answer counted by brute force.
 
-use crate::make::{room, seed};
+use crate::make::{room, seed, strings};
 use second::brute;
 use second::rng::Rng;
 
@@ -96,22 +96,6 @@ impl Sheet {
 fn digits(string: &[bool]) -> String {
     let digit = |bit: &bool| if *bit { '1' } else { '0' };
     string.iter().map(digit).collect()
-}
-
-/// Strings with many in common.
-fn strings(rng: &mut Rng, n: usize, count: usize) -> Vec<Vec<bool>> {
-    let mut all: Vec<Vec<bool>> = Vec::new();
-    for i in 0..count {
-        let mut string = rng.bits(n);
-        if i > 0 && rng.below(4) != 0 {
-            string = all[rng.below(i)].clone();
-            for bit in string.iter_mut().skip(rng.below(2 * n)) {
-                *bit = rng.coin();
-            }
-        }
-        all.push(string);
-    }
-    all
 }
 
 /// The characters of an exam text, and some others.

@@ -1,5 +1,6 @@
 //! Spaces lent to the calls, and the count of what was compared.
 
+use second::rng::Rng;
 use std::collections::BTreeMap;
 use std::fmt::Display;
 
@@ -116,6 +117,20 @@ impl Plan {
 
     pub fn hostile(&self) -> bool {
         self.kind == "hostile"
+    }
+
+    /// A call as planned.
+    pub fn call<C>(
+        &self,
+        rng: &mut Rng,
+        hostile: impl Fn(&mut Rng) -> C,
+        damaged: impl Fn(&mut Rng, &Plan) -> C,
+    ) -> C {
+        if self.hostile() {
+            hostile(rng)
+        } else {
+            damaged(rng, self)
+        }
     }
 }
 

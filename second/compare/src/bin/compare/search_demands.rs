@@ -63,22 +63,6 @@ fn every_small(rng: &mut Rng, tally: &mut Tally, n: usize, t: u64, most: u32) {
     }
 }
 
-/// Strings with many in common.
-fn strings(rng: &mut Rng, n: usize, count: usize) -> Strings {
-    let mut all: Strings = Vec::new();
-    for i in 0..count {
-        let mut string = rng.bits(n);
-        if i > 0 && rng.below(4) != 0 {
-            string = all[rng.below(i)].clone();
-            for bit in string.iter_mut().skip(rng.below(2 * n)) {
-                *bit = rng.coin();
-            }
-        }
-        all.push(string);
-    }
-    all
-}
-
 /// A second collection of a kind.
 fn other(rng: &mut Rng, n: usize, t: u64, one: &Strings, kind: &str) -> Strings {
     let mut all = one.clone();

@@ -38,11 +38,7 @@ pub fn run(start: u64, count: usize, tally: &mut Tally) {
     let mut rng = Rng::new(start ^ 3);
     for i in 0..count {
         let plan = Plan::of(i, &DAMAGES);
-        let call = if plan.hostile() {
-            hostile(&mut rng)
-        } else {
-            damaged(&mut rng, &plan)
-        };
+        let call = plan.call(&mut rng, hostile, damaged);
         compare(&mut rng, &plan, call, tally);
     }
     for (name, call) in specials(&mut rng) {
