@@ -44,7 +44,7 @@ while dead:
     counts = {path: Counter(word for piece in pieces for word in piece[2]) for path, (_, pieces) in files.items()}
     for path, (imports, _) in files.items():
         for line, module, name, here, again in imports:
-            used = again or token(here) in counts[path]
+            used = again or token(here) in counts[path] or bool(name) and here in USE.sub("", open(path).read())
             taken |= {(module, name)} if used else {(module, word) for word in counts[path] if not name}
             rows += ["%s:%d: import %s" % (path, line, here)] if name and not used and not after else []
     for path, (_, pieces) in files.items():

@@ -8,10 +8,11 @@ use native.Mathlib.Omega.{arith}
 use lib.Bits.{xor-lt}
 use lib.Dec.{ltb, ltb→lt, lit<, lit≤}
 use lib.ListN.{length, getD, take, drop}
-use Rattle.aes.specs.Field.{_⊕_, inverse}
-use Rattle.aes.specs.Fips197.{_‼_, tabulate, affineBit, affineBits, affine, sBox, shiftRows, powerOfX, rcon, roundKey, rounds, addRoundKey, cipher}
+use Rattle.gf256.specs.Field.{_⊕_, inverse}
+use Rattle.aes.specs.Fips197.{_‼_, affineBit, affineBits, affine, sBox, shiftRows, powerOfX, rcon, roundKey, rounds, addRoundKey, cipher}
+use Rattle.gf256.specs.Field.{tabulate}
 use Rattle.aes.proofs.Computes.{computes}
-use Rattle.aes.proofs.Below.{below}
+use Rattle.gf256.proofs.Below.{below}
 
 -- every element of a list is below 256
 data Bytes : List ℕ → Type 0 where

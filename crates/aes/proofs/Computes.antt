@@ -1,5 +1,5 @@
 -- The definitions that the tests compute, opened by one name. Assumes nothing.
-use Rattle.aes.specs.Field.{product, remainder, _·_, squares, inverse}
+use Rattle.gf256.specs.Field.{product, remainder, _·_, squares, inverse}
 use Rattle.aes.specs.Fips197.{bit, affineBit, affineBits, affine, powerOfX, rcon}
 
 unfoldable pub computes : Unit {0}

@@ -1,10 +1,6 @@
 pub mod Computes
-pub mod Below
-pub mod Lists
-pub mod Inverse
 pub mod SBoxTable
 pub mod Words
-pub mod Products
 pub mod Columns
 pub mod Rounds
 pub mod Bytes

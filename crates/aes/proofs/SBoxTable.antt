@@ -3,10 +3,10 @@ use mathlib.Core.Path.{_≡_, ap, _∙_}
 use mathlib.Core.List.{map}
 use Prim.Native.Nat.{ℕ, _<_}
 use lib.ListN.{getD}
-use Rattle.aes.specs.Field.{inverse}
+use Rattle.gf256.specs.Field.{inverse}
 use Rattle.aes.specs.Fips197.{affine, sBox, sBoxTable}
-use Rattle.aes.proofs.Inverse.{inverses, inverses-rule}
-use Rattle.aes.proofs.Lists.{getD-tabulate, map-tabulate}
+use Rattle.gf256.proofs.Inverse.{inverses, inverses-rule}
+use Rattle.gf256.proofs.Lists.{getD-tabulate, map-tabulate}
 
 pub table-rule : map affine inverses ≡ sBoxTable
 unfolding sBoxTable sBox

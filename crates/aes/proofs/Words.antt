@@ -7,7 +7,7 @@ use native.Mathlib.Omega.{arith}
 use lib.Bits.{bitXor, xor-shr, xor-mod}
 use Rattle.aes.specs.Fips197.{sumWord, rotWord}
 use Rattle.aes.specs.Layout.{fourBytes}
-use Rattle.aes.proofs.Lists.{cons4}
+use Rattle.gf256.proofs.Lists.{cons4}
 
 pub byte : (x : ℕ) → x % 256 < 256
 byte x = omega arith

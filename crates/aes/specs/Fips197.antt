@@ -3,17 +3,12 @@
 use mathlib.Core.List.{List, [], _∷_, _++_, map}
 use Prim.Native.Nat.{ℕ, zero, suc, _+_, _-_, _*_, _/_, _%_, _^_}
 use lib.ListN.{getD, take, drop}
-use Rattle.aes.specs.Field.{_⊕_, _·_, inverse}
+use Rattle.gf256.specs.Field.{tabulate, _⊕_, _·_, inverse}
 
 infixl 80 _‼_
 -- Element i of a list.
 abbrev pub _‼_ : List ℕ → ℕ → ℕ
 l ‼ i = getD l i 0
-
--- The list of f 0, f 1 and so on, n elements.
-abbrev pub tabulate : ℕ → (ℕ → ℕ) → List ℕ
-tabulate zero f = []
-tabulate (suc n) f = f 0 ∷ tabulate n (λ i. f (suc i))
 
 -- Word j of a list.
 abbrev pub word : ℕ → List ℕ → List ℕ

@@ -2,7 +2,7 @@
 ghost use mathlib.Core.Path.{_≡_};
 ghost use mathlib.Core.List.{[], _∷_, map};
 ghost use Prim.Native.Nat.{_+_, _<_};
-ghost use Rattle.aes.specs.Field.{_·_};
+ghost use Rattle.gf256.specs.Field.{_·_};
 ghost use Rattle.aes.specs.Fips197.{sBoxTable, _‼_, sumWord, mixColumn, rotWord, subWord, rcon};
 ghost use Rattle.aes.specs.Layout.{wordOf};
 use crate::sbox::sub;

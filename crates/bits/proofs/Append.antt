@@ -6,7 +6,7 @@ use mathlib.Core.Bool.{Bool}
 use mathlib.Core.List.{[], _∷_, _++_}
 use lib.ListN.{length, getD, set, drop, length-drop, length-append, drop-of-length-le}
 use lib.Seq.{drop-append-le}
-use Rattle.numbers.specs.Lists.{digit}
+use Rattle.places.specs.Lists.{digit}
 use Rattle.bits.specs.Strings.{Bits, _▹_}
 use Rattle.bits.specs.Packing.{packedLength, value, packIn, pack}
 use Rattle.bits.proofs.Packed.{value-nil}

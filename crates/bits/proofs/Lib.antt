@@ -2,3 +2,4 @@ pub mod Packed
 pub mod Append
 pub mod Spare
 pub mod Order
+pub mod Longer

@@ -16,11 +16,6 @@ use Rattle.bits.proofs.Packed.{value-below}
 
 -- ---- bit strings
 
-pub before-irreflexive : (p : Bits) → isBefore p p ≡ false
-before-irreflexive [] = refl
-before-irreflexive (false ∷ p) = before-irreflexive p
-before-irreflexive (true ∷ p) = before-irreflexive p
-
 pub before-transitive : (p q r : Bits) → Before p q → Before q r → Before p r
 before-transitive [] q r h k = absurd h
 before-transitive (b ∷ p) [] r h k = absurd h

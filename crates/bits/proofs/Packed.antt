@@ -12,11 +12,11 @@ use borrow.Author.Tests.{eqb-true, eqb-false, leb-true, leb-false}
 use lib.ListN.{length, getD, take, drop, length-append, length-take, length-drop, List·getD-append, List·getD-eq-default}
 use lib.Seq.{length-take-le, getD-take, getD-drop, getD-append-add, drop-nil, ext-getD}
 use lib.Dec.{eqb, leb}
-use Rattle.numbers.specs.Lists.{digit}
+use Rattle.places.specs.Lists.{digit}
 use Rattle.bits.specs.Strings.{Bits}
-use Rattle.numbers.specs.Numbers.{Bytes}
+use Rattle.places.specs.Places.{Bytes}
 use Rattle.bits.specs.Packing.{packedLength, value, packIn, pack, digits, bitsOf, unpack, isZero, spareZero}
-use Rattle.numbers.proofs.Endian.{bytes-head, bytes-tail}
+use Rattle.places.proofs.Places.{bytes-head, bytes-tail}
 
 -- ---- some bits as a number
 
@@ -138,19 +138,9 @@ unfolding packIn
 packIn-length zero s = refl
 packIn-length (suc m) s = ap suc (packIn-length m (drop 8 s))
 
-packIn-byte : (m : ℕ) (s : Bits) (i : ℕ) → getD (packIn m s) i 0 < 256
-unfolding packIn
-packIn-byte zero s i = omega arith
-packIn-byte (suc m) s zero = value-below 8 s
-packIn-byte (suc m) s (suc i) = packIn-byte m (drop 8 s) i
-
 pub pack-length : (s : Bits) → length (pack s) ≡ packedLength (length s)
 unfolding pack
 pack-length s = packIn-length (packedLength (length s)) s
-
-pub pack-bytes : (s : Bits) → Bytes (packedLength (length s)) (pack s)
-unfolding pack
-pack-bytes s = record { size = pack-length s; byte = packIn-byte (packedLength (length s)) s }
 
 pad-bit : (w : ℕ) (s r : Bits) → ((j : ℕ) → getD r j false ≡ getD (drop w s) j false) → (i : ℕ) → getD (pad w s ++ r) i false ≡ getD s i false
 unfolding pad

@@ -4,7 +4,7 @@ use mathlib.Core.Bool.{Bool, true, false, _&&_, _||_, not}
 use mathlib.Core.List.{List, [], _∷_, _++_}
 use lib.ListN.{length, take, drop}
 use lib.Dec.{eqb, ltb}
-use Rattle.numbers.specs.Lists.{digit}
+use Rattle.places.specs.Lists.{digit}
 use Rattle.bits.specs.Strings.{Bits}
 
 -- how many bytes n bits take

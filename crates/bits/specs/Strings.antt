@@ -3,7 +3,7 @@ use Prim.Native.Nat.{ℕ}
 use mathlib.Core.Bool.{Bool, true, false, _&&_, Bool·beq}
 use mathlib.Core.List.{List, [], _∷_, _++_}
 use lib.Dec.{T}
-use Rattle.numbers.specs.Lists.{All, number}
+use Rattle.places.specs.Lists.{All, number}
 
 abbrev pub Bits : Type 0
 Bits = List Bool

@@ -1,10 +1,13 @@
 // Packed bit strings in slices.
+mod child;
+
+pub use child::write_child;
 ghost use mathlib.Core.Path.{_≡_};
 ghost use mathlib.Core.Bool.{false};
 ghost use lib.ListN.{getD, drop};
 ghost use Rattle.bits.specs.Packing.{packedLength, bitsOf, isZero, spareZero, bytesBefore};
-use numbers::byte_at;
-use numbers::wide;
+use places::byte_at;
+use places::wide;
 
 // How many bytes n bits take.
 pub fn packed_length(n: usize) -> usize

@@ -1,8 +1,20 @@
--- Bounds of document 01 that several calls share. Assumes nothing.
+-- What several calls ask of what they are lent, and the causes where it is not so. Assumes nothing.
 use Prim.Native.Nat.{ℕ, _<_}
-use mathlib.Core.Bool.{Bool, _||_}
-use mathlib.Core.Logic.{_⊎_}
+use mathlib.Core.Bool.{Bool, not, _||_}
+use mathlib.Core.Logic.{_≢_, _⊎_}
 use lib.Dec.{ltb}
+use Rattle.expander.specs.Expander.{isExpander}
+use Rattle.calls.specs.Causes.{Cause, cause}
+
+-- the most bits of a string, the greatest threshold, the most reports
+abbrev pub mostBits : ℕ
+mostBits = 256
+
+abbrev pub mostThreshold : ℕ
+mostThreshold = 65535
+
+abbrev pub mostReports : ℕ
+mostReports = 65535
 
 -- x is outside the bounds from 1 to `most`; and the test
 abbrev pub Outside : ℕ → ℕ → Type 0
@@ -11,20 +23,22 @@ Outside most x = (x < 1) ⊎ (most < x)
 abbrev pub outside : ℕ → ℕ → Bool
 outside most x = ltb x 1 || ltb most x
 
--- the string length n
-abbrev pub LengthOutside : ℕ → Type 0
-LengthOutside n = Outside 256 n
+-- 1: n is outside its bounds
+abbrev pub lengthCause : ℕ → Cause
+lengthCause n = cause 1 (Outside mostBits n) (outside mostBits n)
 
-abbrev pub lengthOutside : ℕ → Bool
-lengthOutside n = outside 256 n
+-- 2: t is outside its bounds
+abbrev pub thresholdCause : ℕ → Cause
+thresholdCause t = cause 2 (Outside mostThreshold t) (outside mostThreshold t)
 
--- the threshold t
-abbrev pub ThresholdOutside : ℕ → Type 0
-ThresholdOutside t = Outside 65535 t
+-- 3: the expander is not 1 or 2
+abbrev pub expanderCause : ℕ → Cause
+expanderCause e = cause 3 ((e ≢ 1) × (e ≢ 2)) (not (isExpander e))
 
-abbrev pub thresholdOutside : ℕ → Bool
-thresholdOutside t = outside 65535 t
+-- 5: there are more than 65,535 reports
+abbrev pub reportsCause : ℕ → Cause
+reportsCause reports = cause 5 (mostReports < reports) (ltb mostReports reports)
 
--- the most reports
-abbrev pub mostReports : ℕ
-mostReports = 65535
+-- 11: bytes of this size would not fit the room
+abbrev pub spaceCause : ℕ → ℕ → Cause
+spaceCause size room = cause 11 (room < size) (ltb room size)

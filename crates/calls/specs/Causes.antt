@@ -1,35 +1,25 @@
--- What a call refuses with, and what it writes: document 01, 'Causes of refusal'. Assumes nothing.
+-- What a call refuses with, and which number is due: document 01, 'Causes of refusal'. Assumes nothing.
 use Prim.Native.Nat.{ℕ}
+use mathlib.Core.Path.{_≡_}
 use mathlib.Core.Bool.{Bool, cond}
 use mathlib.Core.List.{List, [], _∷_}
+use mathlib.Core.Logic.{_⊎_}
 
--- A cause of refusal: its number, and whether it applies.
-pub record Cause : Type 0 where
+-- A cause of refusal: its number, the condition under which it applies, and the test that decides it.
+pub record Cause : Type 1 where
   pub number : ℕ
-  pub applies : Bool
+  pub Applies : Type 0
+  pub test : Bool
 
-abbrev pub cause : ℕ → Bool → Cause
-cause k b = record { number = k; applies = b }
+abbrev pub cause : ℕ → Type 0 → Bool → Cause
+cause k P b = record { number = k; Applies = P; test = b }
 
--- the number of a call whose causes stand in the order in which they are judged: that of the first that applies, or 0
+-- the number of a call whose causes stand in the order in which they are judged: that of the first whose test is true, or 0
 abbrev pub numberDue : List Cause → ℕ
 numberDue [] = 0
-numberDue (c ∷ cs) = cond (c .applies) (c .number) (numberDue cs)
+numberDue (c ∷ cs) = cond (c .test) (c .number) (numberDue cs)
 
--- The number returned and the bytes written from the beginning of the lent space on.
-pub record Outcome : Type 0 where
-  pub number : ℕ
-  pub written : List ℕ
-
--- a refusal: its number, and nothing is written
-abbrev pub refused : ℕ → Outcome
-refused k = record { number = k; written = [] }
-
--- success: 0, and what is written
-abbrev pub accepted : List ℕ → Outcome
-accepted bytes = record { number = 0; written = bytes }
-
--- a call that writes into one lent space: the first of its causes that applies refuses, and where none applies it succeeds
-abbrev pub judged : List Cause → List ℕ → Outcome
-judged [] bytes = accepted bytes
-judged (c ∷ cs) bytes = cond (c .applies) (refused (c .number)) (judged cs bytes)
+-- k is due: it is the number of the first cause that applies, or 0 where none does
+abbrev pub Due : List Cause → ℕ → Type 0
+Due [] k = k ≡ 0
+Due (c ∷ cs) k = (c .Applies × (k ≡ c .number)) ⊎ ((c .Applies → ⊥) × Due cs k)

@@ -1,3 +1,3 @@
 pub mod Causes
-pub mod Clauses
 pub mod Bounds
+pub mod Outcome

@@ -6,16 +6,16 @@ use mathlib.Core.List.{List}
 use mathlib.Core.Logic.{_≢_}
 use borrow.Author.Tests.{eq-eqb, ne-eqb, lt-ltb, le-ltb}
 use lib.ListN.{length}
-use lib.Dec.{eqb, ltb, ltb→lt, lt→ltb}
-use Rattle.calls.specs.Causes.{refused, accepted}
-use Rattle.calls.specs.Clauses.{Due}
+use lib.Dec.{eqb}
+use Rattle.calls.specs.Causes.{Due}
+use Rattle.calls.specs.Outcome.{refused, accepted}
 use Rattle.calls.proofs.Decisions.{differ, differ-test}
-use Rattle.calls.proofs.Judged.{due, none, next}
-use Rattle.expander.specs.Expander.{blockOf, choiceOf, isExpander}
+use Rattle.calls.proofs.Judged.{due, none, next, expander-decided, space-decided}
+use Rattle.expander.specs.Expander.{blockOf, choiceOf}
 use Rattle.expander.specs.declared.Expander.{Expander}
 use Rattle.expander.specs.declared.Choice.the-variants.{Known, Unknown}
-use Rattle.expander.proofs.Chosen.{known, unknown, unnamed, unnamed-test}
-use Rattle.capi.specs.Block.{blockClauses, blockOutcome}
+use Rattle.expander.proofs.Chosen.{known, unknown}
+use Rattle.capi.specs.Block.{blockCauses, blockOutcome}
 
 module _ (e : ℕ) (seed : List ℕ) (j room : ℕ) where
   pub unknown-expander : choiceOf e ≡ Unknown → blockOutcome e seed j room ≡ refused 3
@@ -35,11 +35,11 @@ module _ (e : ℕ) (seed : List ℕ) (j room : ℕ) where
     unfolding blockOutcome
     all-well l r = rw (known e x h, eq-eqb (length seed) 16 l, le-ltb room 16 r, h)
 
-pub block-due : (e : ℕ) (seed : List ℕ) (j room : ℕ) → Due (blockClauses e seed room) (blockOutcome e seed j room .number)
+pub block-due : (e : ℕ) (seed : List ℕ) (j room : ℕ) → Due (blockCauses e seed room) (blockOutcome e seed j room .number)
 unfolding blockOutcome
 block-due e seed j room =
     due
-    (next {b = not (isExpander e)} (unnamed e) (unnamed-test e)
+    (expander-decided e
     (next {b = not (eqb (length seed) 16)} (differ (length seed) 16) (differ-test (length seed) 16)
-    (next {b = ltb room 16} (ltb→lt room 16) (lt→ltb room 16) none)))
+    (space-decided 16 room none)))
     _

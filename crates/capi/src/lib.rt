@@ -4,22 +4,18 @@ use combine::Combined;
 use expander::Choice;
 use search::Found;
 ghost use mathlib.Core.Path.{_≡_};
-ghost use lib.ListN.{length};
-ghost use Rattle.numbers.specs.Places.{overlay};
-ghost use Rattle.capi.specs.Block.{blockOutcome};
-ghost use Rattle.capi.specs.Combined.{kindNumber};
-ghost use Rattle.combine.specs.Combine.{combineOutcome, combineKind};
-ghost use Rattle.exam_text.specs.Exam.{examOutcome};
-ghost use Rattle.keymaker.specs.Key.{keyOutcome};
-ghost use Rattle.idpf.specs.Share.{shareOutcome};
-ghost use Rattle.search.specs.Search.{lent, searchNumber, recordLength, listLength, recordAfter, listAfter};
+ghost use Rattle.calls.specs.Outcome.{left};
+ghost use Rattle.capi.specs.Block.{blockExit};
+ghost use Rattle.capi.specs.Combined.{inC, combineInC};
+ghost use Rattle.exam_answering.specs.Exam.{examExit};
+ghost use Rattle.keymaker.specs.Key.{keyExit};
+ghost use Rattle.idpf.specs.Share.{shareExit};
+ghost use Rattle.search.specs.Search.{lent, searchEnding, returned};
 
 // Writes block j of a seed of 16 bytes; refuses with 3, 4 or 11.
 #[no_mangle]
 pub extern "C" fn tally_block(expander: u64, seed: &[u8], j: u64, block: &mut [u8]) -> Reply
-    ensures number { λ r. ⌜ r .number ≡ blockOutcome expander (now (seed .entry)) j (length (now (block .entry))) .number ⌝ }
-    ensures written { λ r. ⌜ r .length ≡ length (blockOutcome expander (now (seed .entry)) j (length (now (block .entry))) .written) ⌝ }
-    ensures space { λ r. ⌜ now (block .exit) ≡ overlay (blockOutcome expander (now (seed .entry)) j (length (now (block .entry))) .written) (now (block .entry)) ⌝ }
+    ensures { λ r. ⌜ left r (now (block .exit)) ≡ blockExit expander (now (seed .entry)) j (now (block .entry)) ⌝ }
 {
     match expander::choose(expander) {
         Choice::Known(e) => {
@@ -35,8 +31,8 @@ pub extern "C" fn tally_block(expander: u64, seed: &[u8], j: u64, block: &mut [u
                     length: 0,
                 };
             }
-            let bytes = expander::block(e, numbers::read16(seed, 0), j);
-            numbers::write16(block, 0, bytes);
+            let bytes = expander::block(e, places::read16(seed, 0), j);
+            places::write16(block, 0, bytes);
             Reply {
                 number: 0,
                 length: 16,
@@ -59,9 +55,8 @@ pub extern "C" fn tally_key(
     seed1: &[u8],
     public_share: &mut [u8],
 ) -> Reply
-    ensures number { λ r. ⌜ r .number ≡ keyOutcome n expander (now (string .entry)) (now (seed0 .entry)) (now (seed1 .entry)) (length (now («public_share» .entry))) .number ⌝ }
-    ensures written { λ r. ⌜ r .length ≡ length (keyOutcome n expander (now (string .entry)) (now (seed0 .entry)) (now (seed1 .entry)) (length (now («public_share» .entry))) .written) ⌝ }
-    ensures space { λ r. ⌜ now («public_share» .exit) ≡ overlay (keyOutcome n expander (now (string .entry)) (now (seed0 .entry)) (now (seed1 .entry)) (length (now («public_share» .entry))) .written) (now («public_share» .entry)) ⌝ }
+    ensures { λ r. ⌜ left r (now («public_share» .exit)) ≡ keyExit n expander (now (string .entry)) (now (seed0 .entry)) (now (seed1 .entry))
+        (now («public_share» .entry)) ⌝ }
 {
     keymaker::make_key(n, expander, string, seed0, seed1, public_share)
 }
@@ -78,9 +73,8 @@ pub extern "C" fn tally_share(
     query: &[u8],
     share: &mut [u8],
 ) -> Reply
-    ensures number { λ r. ⌜ r .number ≡ shareOutcome n expander server (now (seeds .entry)) (now («public_shares» .entry)) (now (query .entry)) (length (now (share .entry))) .number ⌝ }
-    ensures written { λ r. ⌜ r .length ≡ length (shareOutcome n expander server (now (seeds .entry)) (now («public_shares» .entry)) (now (query .entry)) (length (now (share .entry))) .written) ⌝ }
-    ensures space { λ r. ⌜ now (share .exit) ≡ overlay (shareOutcome n expander server (now (seeds .entry)) (now («public_shares» .entry)) (now (query .entry)) (length (now (share .entry))) .written) (now (share .entry)) ⌝ }
+    ensures { λ r. ⌜ left r (now (share .exit)) ≡ shareExit n expander server (now (seeds .entry)) (now («public_shares» .entry)) (now (query .entry))
+        (now (share .entry)) ⌝ }
 {
     idpf::share(n, expander, server, seeds, public_shares, query, share)
 }
@@ -104,10 +98,7 @@ pub extern "C" fn tally_combine(
     share1: &[u8],
     out: &mut [u8],
 ) -> CombineReply
-    ensures number { λ r. ⌜ r .number ≡ combineOutcome n t (now (query .entry)) (now (share0 .entry)) (now (share1 .entry)) (length (now (out .entry))) .number ⌝ }
-    ensures kind { λ r. ⌜ r .kind ≡ kindNumber (combineKind n t (now (query .entry)) (now (share0 .entry)) (now (share1 .entry)) (length (now (out .entry)))) ⌝ }
-    ensures written { λ r. ⌜ r .length ≡ length (combineOutcome n t (now (query .entry)) (now (share0 .entry)) (now (share1 .entry)) (length (now (out .entry))) .written) ⌝ }
-    ensures space { λ r. ⌜ now (out .exit) ≡ overlay (combineOutcome n t (now (query .entry)) (now (share0 .entry)) (now (share1 .entry)) (length (now (out .entry))) .written) (now (out .entry)) ⌝ }
+    ensures { λ r. ⌜ inC r (now (out .exit)) ≡ combineInC n t (now (query .entry)) (now (share0 .entry)) (now (share1 .entry)) (now (out .entry)) ⌝ }
 {
     match combine::combine(n, t, query, share0, share1, out) {
         Combined::Next(length) => CombineReply {
@@ -146,11 +137,9 @@ pub extern "C" fn tally_search(
     record: &mut [u8],
     list: &mut [u8],
 ) -> Found
-    ensures number { λ r. ⌜ r .number ≡ searchNumber (lent n t expander (now (seeds0 .entry)) (now («public_shares0» .entry)) (now (seeds1 .entry)) (now («public_shares1» .entry)) (now («record» .entry)) (now (list .entry))) ⌝ }
-    ensures record_written { λ r. ⌜ r .«record_length» ≡ recordLength (lent n t expander (now (seeds0 .entry)) (now («public_shares0» .entry)) (now (seeds1 .entry)) (now («public_shares1» .entry)) (now («record» .entry)) (now (list .entry))) ⌝ }
-    ensures list_written { λ r. ⌜ r .«list_length» ≡ listLength (lent n t expander (now (seeds0 .entry)) (now («public_shares0» .entry)) (now (seeds1 .entry)) (now («public_shares1» .entry)) (now («record» .entry)) (now (list .entry))) ⌝ }
-    ensures record_area { λ _. ⌜ now («record» .exit) ≡ recordAfter (lent n t expander (now (seeds0 .entry)) (now («public_shares0» .entry)) (now (seeds1 .entry)) (now («public_shares1» .entry)) (now («record» .entry)) (now (list .entry))) ⌝ }
-    ensures list_area { λ _. ⌜ now (list .exit) ≡ listAfter (lent n t expander (now (seeds0 .entry)) (now («public_shares0» .entry)) (now (seeds1 .entry)) (now («public_shares1» .entry)) (now («record» .entry)) (now (list .entry))) ⌝ }
+    ensures { λ r. ⌜ returned r (now («record» .exit)) (now (list .exit)) ≡ searchEnding (lent n t expander (now (seeds0 .entry))
+        (now («public_shares0» .entry))
+        (now (seeds1 .entry)) (now («public_shares1» .entry)) (now («record» .entry)) (now (list .entry))) ⌝ }
 {
     search::search(
         n,
@@ -168,9 +157,7 @@ pub extern "C" fn tally_search(
 // Answers an exam text: a line for each queried prefix, then the heavy strings; refuses with 10, 1, 2, 3 or 11.
 #[no_mangle]
 pub extern "C" fn tally_exam(text: &[u8], out: &mut [u8]) -> Reply
-    ensures number { λ r. ⌜ r .number ≡ examOutcome (now (text .entry)) (length (now (out .entry))) .number ⌝ }
-    ensures written { λ r. ⌜ r .length ≡ length (examOutcome (now (text .entry)) (length (now (out .entry))) .written) ⌝ }
-    ensures space { λ _. ⌜ now (out .exit) ≡ overlay (examOutcome (now (text .entry)) (length (now (out .entry))) .written) (now (out .entry)) ⌝ }
+    ensures { λ r. ⌜ left r (now (out .exit)) ≡ examExit (now (text .entry)) (now (out .entry)) ⌝ }
 {
-    exam_text::answer(text, out)
+    exam_answering::answer(text, out)
 }

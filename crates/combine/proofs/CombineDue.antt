@@ -7,16 +7,15 @@ use mathlib.Core.List.{List·Memᴰ·head as here, List·Memᴰ·tail as there}
 use borrow.Author.Tests.{le-ltb, ltb-false}
 use lib.ListN.{length, getD}
 use lib.Dec.{T, eqb, ltb, ltb→lt, lt→ltb, not-T}
-use Rattle.numbers.specs.Lists.{_∈_}
-use Rattle.calls.specs.Bounds.{lengthOutside, thresholdOutside}
-use Rattle.calls.specs.Clauses.{Due}
-use Rattle.calls.proofs.Decisions.{passed, failed, failed-test, differ, differ-test, either, either-test, beyond, beyond-test}
-use Rattle.calls.proofs.Judged.{due, none, next as also}
+use Rattle.places.specs.Lists.{_∈_}
+use Rattle.calls.specs.Causes.{Due}
+use Rattle.calls.proofs.Decisions.{passed, failed, failed-test, differ, differ-test, either, either-test}
+use Rattle.calls.proofs.Judged.{due, none, next as also, length-decided, threshold-decided}
 use Rattle.group.specs.Modular.{p}
 use Rattle.query.specs.Query.{limit, IsQuery, isQuery, prefixCount}
 use Rattle.query.proofs.Queries.{query-exact}
 use Rattle.combine.specs.Answer.{numbers, Answer, next, list, ended}
-use Rattle.combine.specs.Combine.{WrongShares, wrongShares, NumberTooLarge, allBelow, PassesLimit, passesLimit, combineAnswer, combineBytes, combineClauses, combineOutcome}
+use Rattle.combine.specs.Combine.{WrongShares, wrongShares, NumberTooLarge, allBelow, PassesLimit, passesLimit, combineAnswer, combineBytes, combineCauses, combineOutcome}
 
 -- ---- each test decides its clause
 
@@ -108,12 +107,12 @@ module _ (n t : ℕ) (query share0 share1 : List ℕ) (room : ℕ) (byte : (i : 
   past-limit = passesLimit (combineAnswer n t query share0 share1)
 
   -- for all numbers and shares, where each element of the query is below 256
-  pub combine-due : Due (combineClauses n t query share0 share1 room) (combineOutcome n t query share0 share1 room .number)
+  pub combine-due : Due (combineCauses n t query share0 share1 room) (combineOutcome n t query share0 share1 room .number)
   unfolding combineOutcome
   combine-due =
       due
-      (also {b = lengthOutside n} (beyond 256 n) (beyond-test 256 n)
-      (also {b = thresholdOutside t} (beyond 65535 t) (beyond-test 65535 t)
+      (length-decided n
+      (threshold-decided t
       (also {b = wrongShares n query share0 share1} wrong wrong-test
       (also {b = large0 || large1}
       (either large0 large1 (too-large share0) (too-large share1))

@@ -5,4 +5,4 @@ pub mod Outcome
 pub mod Told
 pub mod CombineDue
 pub mod NextPasses
-pub mod KeptSelect
+pub mod ShareTotals

@@ -4,33 +4,23 @@ use native.Mathlib.Omega.{arith}
 use mathlib.Core.Path.{_≡_, refl, ap, _∙_}
 use mathlib.Core.Bool.{Bool, true, false, cond}
 use mathlib.Core.List.{List, [], _∷_}
-use mathlib.Core.Option.{none, some}
+use mathlib.Core.Option.{Option, none, some}
 use borrow.Author.Tests.{eqb-true, eqb-false, ltb-false}
 use lib.ListN.{length, getD}
-use lib.Dec.{leb, ltb, eqb}
-use Rattle.numbers.specs.Lists.{All}
-use Rattle.bits.specs.Strings.{Bits, Before, Ascending}
+use lib.Dec.{ltb, eqb}
+use Rattle.bits.specs.Strings.{Bits}
 use Rattle.calls.specs.Causes.{numberDue}
 use Rattle.calls.proofs.Decisions.{neither}
-use Rattle.calls.proofs.Judged.{judged-clear, judged-accepted, judged-due}
-use Rattle.group.specs.Modular.{field}
+use Rattle.calls.proofs.Judged.{Clear, judged-clear, judged-accepted, judged-due}
+use Rattle.kept.specs.Kept.{reaches}
+use Rattle.kept.proofs.Kept.{kept-ascending}
 use Rattle.query.specs.Query.{query, limit, IsQuery, prefixLength, prefixesOf, children}
 use Rattle.tree.proofs.Asked.{next-query}
 use Rattle.query.proofs.Queries.{ascending-test}
 use Rattle.query.proofs.Ready.{ready as query-ready}
-use Rattle.combine.specs.Answer.{numbers, added, kept, Answer, next, list, ended, further, answer, answerBytes, nextQuery, kind}
-use Rattle.combine.specs.Combine.{keptPrefixes, combineAnswer, combineBytes, passesLimit, combineCauses, combineOutcome, combineKind}
-use Rattle.combine.proofs.Ready.{Ready, clear-ready, all-kept, kept-long}
-
--- kept prefixes of ascending ones are ascending
-kept-ascending : (f : ℕ → Bool) (qs : List Bits) (xs : List ℕ) → Ascending qs → Ascending (kept f qs xs)
-kept-ascending f [] xs a = tt
-kept-ascending f (q ∷ qs) [] a = tt
-kept-ascending f (q ∷ qs) (x ∷ xs) a = go (f x) (kept-ascending f qs xs (a .1))
-  where
-    go : (b : Bool) → Ascending (kept f qs xs) → Ascending (cond b (q ∷ kept f qs xs) (kept f qs xs))
-    go true h = (all-kept (Before q) f qs xs (a .0), h)
-    go false h = h
+use Rattle.combine.specs.Answer.{Answer, next, list, ended, further, answer, answerBytes, Kind, nextQuery, heavyList, searchEnded, kind}
+use Rattle.combine.specs.Combine.{shareTotals, keptPrefixes, combineAnswer, combineBytes, passesLimit, combineCauses, combineOutcome, combineKind}
+use Rattle.combine.proofs.Ready.{Ready, clear-ready, kept-long}
 
 -- an answer that goes on: before length n, and the children of kept prefixes
 pub record GoesOn (n k : ℕ) (ps qs : List Bits) : Type 0 where
@@ -48,7 +38,7 @@ goes-on n k ps qs e = go (eqb k n) refl ps e
 
 module _ (n t : ℕ) (q s0 s1 : List ℕ) (room : ℕ) (byte : (i : ℕ) → getD q i 0 < 256) (qs : List Bits)
     (e : combineAnswer n t q s0 s1 ≡ next qs) (z : combineOutcome n t q s0 s1 room .number ≡ 0) where
-  no-causes : All (λ c. c .applies ≡ false) (combineCauses n t q s0 s1 room)
+  no-causes : Clear (combineCauses n t q s0 s1 room)
   unfolding combineOutcome
   no-causes =
       judged-clear (combineCauses n t q s0 s1 room) (combineBytes n t q s0 s1)
@@ -78,9 +68,9 @@ module _ (n t : ℕ) (q s0 s1 : List ℕ) (room : ℕ) (byte : (i : ℕ) → get
       let r = query-ready n q (all-well .a-query) in
       let k : prefixLength q < n = omega (arith, r .not-longer, g .not-end) in
       let f : length (children ks) ≤ limit = rw (← g .both) not-more in
-      let a = kept-ascending (leb t) (prefixesOf q) (added field (numbers s0) (numbers s1)) (ascending-test (prefixesOf q) .0 (r .ascending)) in
+      let a = kept-ascending (reaches t) (prefixesOf q) (shareTotals s0 s1) (ascending-test (prefixesOf q) .0 (r .ascending)) in
       rw (next-written, g .both)
-      (next-query n (prefixLength q) ks k (omega (arith, all-well .not-longer)) (g .some) f (kept-long n t q s0 s1 byte all-well) a)
+      (next-query n (prefixLength q) ks k (omega (arith, all-well .not-longer)) (g .some) f (kept-long n t q s0 s1 byte all-well (reaches t)) a)
 
 -- Where the kind of answer is a next query, the call succeeds, and its answer holds both children of each kept prefix.
 pub next-told : (n t : ℕ) (q s0 s1 : List ℕ) (room : ℕ) → combineKind n t q s0 s1 room ≡ some nextQuery
@@ -92,12 +82,18 @@ next-told n t q s0 s1 room h =
     due : ℕ
     due = numberDue (combineCauses n t q s0 s1 room)
 
+    isNext : Option Kind → ℕ
+    isNext none = 0
+    isNext (some nextQuery) = 1
+    isNext (some heavyList) = 0
+    isNext (some searchEnded) = 0
+
     go : (b : Bool) → eqb due 0 ≡ b → (a : Answer) → combineAnswer n t q s0 s1 ≡ a → cond b (some (kind a)) none ≡ some nextQuery
         → (combineOutcome n t q s0 s1 room .number ≡ 0) × (combineAnswer n t q s0 s1 ≡ next (children (keptPrefixes t q s0 s1)))
     go true z (next qs) e h = (
       judged-due (combineCauses n t q s0 s1 room) _ ∙ eqb-true due 0 z,
       e ∙ ap next (goes-on n (prefixLength q) (keptPrefixes t q s0 s1) qs e .both),
     )
-    go true z (list ss) e h = let z : _≡_ {A = ℕ} 0 1 = cc in absurd (omega arith)
-    go true z ended e h = let z : _≡_ {A = ℕ} 0 1 = cc in absurd (omega arith)
-    go false z a e h = let z : _≡_ {A = ℕ} 0 1 = cc in absurd (omega arith)
+    go true z (list ss) e h = absurd (omega (arith, ap isNext h))
+    go true z ended e h = absurd (omega (arith, ap isNext h))
+    go false z a e h = absurd (omega (arith, ap isNext h))

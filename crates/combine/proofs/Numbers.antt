@@ -3,40 +3,30 @@ use Prim.Native.Nat.{ℕ, zero, suc, _+_, _-_, _≤_, _<_}
 use native.Mathlib.Omega.{arith}
 use mathlib.Core.Path.{_≡_, refl, _∙_}
 use mathlib.Core.Bool.{Bool, true, false}
-use mathlib.Core.List.{List, _∷_, map}
+use mathlib.Core.List.{List, _∷_}
 use borrow.Author.Tests.{lt-ltb, le-ltb}
-use lib.ListN.{length, drop}
-use lib.Dec.{leb}
-use Rattle.numbers.specs.Lists.{digit, number}
+use lib.ListN.{length}
+use Rattle.places.specs.Lists.{digit, number}
 use Rattle.numbers.specs.Numbers.{fromLittle}
-use Rattle.numbers.specs.Places.{window}
-use Rattle.numbers.proofs.Places.{window-inside}
+use Rattle.places.specs.Places.{window}
 use Rattle.group.specs.Modular.{p, field}
 use Rattle.query.specs.Query.{parts}
-use Rattle.query.proofs.Parts.{parts-step}
+use Rattle.query.proofs.Pieces.{numbersAt, numbers-step}
 use Rattle.combine.specs.Answer.{added}
 use Rattle.combine.specs.Combine.{allBelow}
-
--- m numbers of a share from a place on
-abbrev pub numbersFrom : ℕ → ℕ → List ℕ → List ℕ
-numbersFrom m place s = map fromLittle (parts 8 m (drop place s))
-
-numbers-step : (m place : ℕ) (s : List ℕ) → 0 < m → place + 8 ≤ length s
-    → numbersFrom m place s ≡ fromLittle (window 8 place s) ∷ numbersFrom (m - 1) (place + 8) s
-numbers-step m place s h room = rw (parts-step 8 m place s h, window-inside 8 place s room)
 
 -- ---- numbers below p
 
 module _ (m place : ℕ) (s : List ℕ) (h : 0 < m) (room : place + 8 ≤ length s) (x : ℕ) (e : x ≡ fromLittle (window 8 place s)) where
-  pub below-yes : x < p → allBelow (numbersFrom m place s) ≡ allBelow (numbersFrom (m - 1) (place + 8) s)
+  pub below-yes : x < p → allBelow (numbersAt m place s) ≡ allBelow (numbersAt (m - 1) (place + 8) s)
   unfolding allBelow
   below-yes l = rw (numbers-step m place s h room, ← e, lt-ltb x p l)
 
-  pub below-no : p ≤ x → allBelow (numbersFrom m place s) ≡ false
+  pub below-no : p ≤ x → allBelow (numbersAt m place s) ≡ false
   unfolding allBelow
   below-no l = rw (numbers-step m place s h room, ← e, le-ltb x p l)
 
-pub below-none : (m place : ℕ) (s : List ℕ) → m ≤ 0 → allBelow (numbersFrom m place s) ≡ true
+pub below-none : (m place : ℕ) (s : List ℕ) → m ≤ 0 → allBelow (numbersAt m place s) ≡ true
 unfolding parts allBelow
 below-none zero place s h = refl
 below-none (suc m) place s h = absurd (omega arith)
@@ -50,24 +40,24 @@ module _ (s0 s1 : List ℕ) where
 
   -- m totals from a place on
   abbrev pub totalsFrom : ℕ → ℕ → List ℕ
-  totalsFrom m place = added field (numbersFrom m place s0) (numbersFrom m place s1)
+  totalsFrom m place = added field (numbersAt m place s0) (numbersAt m place s1)
 
   module _ (m place : ℕ) (h : 0 < m) (room0 : place + 8 ≤ length s0) (room1 : place + 8 ≤ length s1) where
     pub totals-step : totalsFrom m place ≡ totalAt place ∷ totalsFrom (m - 1) (place + 8)
     totals-step = rw (numbers-step m place s0 h room0, numbers-step m place s1 h room1)
 
-    -- b tells whether the first of them is at least t
-    module _ (t : ℕ) (b : Bool) (e : b ≡ leb t (totalAt place)) where
-      number-step : number (leb t) (totalsFrom m place) ≡ digit b + number (leb t) (totalsFrom (m - 1) (place + 8))
+    -- b tells whether the first of them passes
+    module _ (passes : ℕ → Bool) (b : Bool) (e : b ≡ passes (totalAt place)) where
+      number-step : number passes (totalsFrom m place) ≡ digit b + number passes (totalsFrom (m - 1) (place + 8))
       number-step = rw (totals-step, e)
 
-      pub number-yes : b ≡ true → number (leb t) (totalsFrom m place) ≡ 1 + number (leb t) (totalsFrom (m - 1) (place + 8))
+      pub number-yes : b ≡ true → number passes (totalsFrom m place) ≡ 1 + number passes (totalsFrom (m - 1) (place + 8))
       number-yes h = number-step ∙ rw h
 
-      pub number-no : b ≡ false → number (leb t) (totalsFrom m place) ≡ number (leb t) (totalsFrom (m - 1) (place + 8))
+      pub number-no : b ≡ false → number passes (totalsFrom m place) ≡ number passes (totalsFrom (m - 1) (place + 8))
       number-no h = number-step ∙ rw h (omega arith)
 
-  pub number-none : (t m place : ℕ) → m ≤ 0 → number (leb t) (totalsFrom m place) ≡ 0
+  pub number-none : (passes : ℕ → Bool) (m place : ℕ) → m ≤ 0 → number passes (totalsFrom m place) ≡ 0
   unfolding parts
-  number-none t zero place h = refl
-  number-none t (suc m) place h = absurd (omega arith)
+  number-none passes zero place h = refl
+  number-none passes (suc m) place h = absurd (omega arith)

@@ -3,24 +3,23 @@ use Prim.Native.Nat.{ℕ, _<_}
 use native.Mathlib.Omega.{arith}
 use mathlib.Core.Path.{_≡_, refl, sym, ap, _∙_}
 use mathlib.Core.Bool.{Bool, true, false, cond, not, _&&_, _||_}
-use mathlib.Core.List.{List, [], _∷_, _++_}
+use mathlib.Core.List.{List, [], _∷_}
 use mathlib.Core.Option.{some}
 use borrow.Author.Tests.{eq-eqb, ne-eqb}
 use lib.ListN.{length}
 use lib.Dec.{ltb}
-use Rattle.numbers.specs.Lists.{All}
 use Rattle.bits.specs.Strings.{Bits}
-use Rattle.numbers.specs.Places.{overlay}
-use Rattle.numbers.proofs.Places.{overlay-nil}
-use Rattle.calls.specs.Bounds.{lengthOutside, thresholdOutside}
-use Rattle.calls.specs.Causes.{Cause, cause, numberDue, accepted, judged}
-use Rattle.calls.proofs.Judged.{judged-due, judged-refused}
+use Rattle.places.specs.Places.{overlay}
+use Rattle.places.proofs.Places.{overlay-nil}
+use Rattle.calls.specs.Bounds.{mostBits, mostThreshold, outside}
+use Rattle.calls.specs.Causes.{Cause, numberDue}
+use Rattle.calls.specs.Outcome.{accepted, judged}
+use Rattle.calls.proofs.Judged.{Clear, first-due, second-due, judged-due, judged-refused, judged-second}
 use Rattle.query.specs.Query.{isQuery, prefixLength, children}
 use Rattle.combine.specs.declared.Combined.{Combined}
 use Rattle.combine.specs.declared.Combined.the-variants.{Refused}
 use Rattle.combine.specs.Answer.{numbers, Answer, next, list, ended, further, answerBytes, kind, numberOf, lengthOf, kindOf}
-use Rattle.combine.specs.Combine.{wrongShares, allBelow, keptPrefixes, combineAnswer, combineBytes, passesLimit, combineCauses, combineOutcome, combineKind}
-use Rattle.combine.proofs.Ready.{lent}
+use Rattle.combine.specs.Combine.{wrongShares, allBelow, keptPrefixes, combineAnswer, combineBytes, passesLimit, lentCauses, spaceCauses, combineCauses, combineOutcome, combineKind, combineExit, told}
 
 -- ---- the first cause that applies of those of what is lent
 
@@ -35,48 +34,27 @@ both true false h = sym h
 both false b h = sym h
 
 module _ (n t : ℕ) (q s0 s1 : List ℕ) where
-  pub cause-1 : lengthOutside n ≡ true → 1 ≡ numberDue (lent n t q s0 s1)
+  pub cause-1 : outside mostBits n ≡ true → 1 ≡ numberDue (lentCauses n t q s0 s1)
   cause-1 h = rw h
 
-  module _ (h₁ : lengthOutside n ≡ false) where
-    pub cause-2 : thresholdOutside t ≡ true → 2 ≡ numberDue (lent n t q s0 s1)
+  module _ (h₁ : outside mostBits n ≡ false) where
+    pub cause-2 : outside mostThreshold t ≡ true → 2 ≡ numberDue (lentCauses n t q s0 s1)
     cause-2 h = rw (h₁, h)
 
-    module _ (h₂ : thresholdOutside t ≡ false) where
-      pub cause-4 : wrongShares n q s0 s1 ≡ true → 4 ≡ numberDue (lent n t q s0 s1)
+    module _ (h₂ : outside mostThreshold t ≡ false) where
+      pub cause-4 : wrongShares n q s0 s1 ≡ true → 4 ≡ numberDue (lentCauses n t q s0 s1)
       cause-4 h = rw (h₁, h₂, h)
 
       module _ (h₄ : wrongShares n q s0 s1 ≡ false) where
-        pub cause-6 : (allBelow (numbers s0) && allBelow (numbers s1)) ≡ false → 6 ≡ numberDue (lent n t q s0 s1)
+        pub cause-6 : (allBelow (numbers s0) && allBelow (numbers s1)) ≡ false → 6 ≡ numberDue (lentCauses n t q s0 s1)
         cause-6 h = rw (h₁, h₂, h₄, not-both (allBelow (numbers s0)) (allBelow (numbers s1)) h)
 
         module _ (h₆ : (allBelow (numbers s0) && allBelow (numbers s1)) ≡ true) where
-          pub cause-9 : isQuery n q ≡ false → 9 ≡ numberDue (lent n t q s0 s1)
+          pub cause-9 : isQuery n q ≡ false → 9 ≡ numberDue (lentCauses n t q s0 s1)
           cause-9 h = rw (h₁, h₂, h₄, both (allBelow (numbers s0)) (allBelow (numbers s1)) h₆, h)
 
-          pub no-cause : isQuery n q ≡ true → 0 ≡ numberDue (lent n t q s0 s1)
+          pub no-cause : isQuery n q ≡ true → 0 ≡ numberDue (lentCauses n t q s0 s1)
           no-cause h = rw (h₁, h₂, h₄, both (allBelow (numbers s0)) (allBelow (numbers s1)) h₆, h)
-
--- ---- some causes, and then others
-
--- one of the first applies
-number-first : (cs ds : List Cause) (k : ℕ) → k ≡ numberDue cs → (k ≡ 0 → ⊥) → numberDue (cs ++ ds) ≡ k
-number-first [] ds k h z = absurd (z h)
-number-first (c ∷ cs) ds k h z = go (c .applies) h (number-first cs ds k)
-  where
-    go : (b : Bool) → k ≡ cond b (c .number) (numberDue cs) → (k ≡ numberDue cs → (k ≡ 0 → ⊥) → numberDue (cs ++ ds) ≡ k)
-        → cond b (c .number) (numberDue (cs ++ ds)) ≡ k
-    go true e f = sym e
-    go false e f = f e z
-
--- none of the first applies
-number-after : (cs ds : List Cause) → All (λ c. c .applies ≡ false) cs → numberDue (cs ++ ds) ≡ numberDue ds
-number-after [] ds a = refl
-number-after (c ∷ cs) ds a = rw (a .0) (number-after cs ds (a .1))
-
-judged-after : (cs ds : List Cause) (bytes : List ℕ) → All (λ c. c .applies ≡ false) cs → judged (cs ++ ds) bytes ≡ judged ds bytes
-judged-after [] ds bytes a = refl
-judged-after (c ∷ cs) ds bytes a = rw (a .0) (judged-after cs ds bytes (a .1))
 
 -- ---- what the call returns, and what it leaves in the space d
 
@@ -86,6 +64,11 @@ module _ (n t : ℕ) (q s0 s1 : List ℕ) (d : List ℕ) where
       (numberOf r ≡ combineOutcome n t q s0 s1 (length d) .number)
       × ((kindOf r ≡ combineKind n t q s0 s1 (length d))
       × ((lengthOf r ≡ length (combineOutcome n t q s0 s1 (length d) .written)) × (out ≡ overlay (combineOutcome n t q s0 s1 (length d) .written) d)))
+
+  -- the same as one equation
+  pub told-exit : (r : Combined) (out : List ℕ) → Told r out → told r out ≡ combineExit n t q s0 s1 d
+  unfolding told
+  told-exit r out h = rw (h .0, h .1 .0, h .1 .1 .0, h .1 .1 .1)
 
   told-refused : (k : ℕ) → numberDue (combineCauses n t q s0 s1 (length d)) ≡ k → (k ≡ 0 → ⊥) → Told (Refused k) d
   unfolding combineOutcome combineKind
@@ -103,20 +86,20 @@ module _ (n t : ℕ) (q s0 s1 : List ℕ) (d : List ℕ) where
 
   -- the cause of what is to be written
   abbrev last : List Cause
-  last = cause 11 (ltb (length d) (length (combineBytes n t q s0 s1)) || passesLimit (combineAnswer n t q s0 s1)) ∷ []
+  last = spaceCauses n t q s0 s1 (length d)
 
   -- a cause of what is lent
-  pub told-lent : (k : ℕ) → k ≡ numberDue (lent n t q s0 s1) → (k ≡ 0 → ⊥) → Told (Refused k) d
-  told-lent k h z = told-refused k (number-first (lent n t q s0 s1) last k h z) z
+  pub told-lent : (k : ℕ) → k ≡ numberDue (lentCauses n t q s0 s1) → (k ≡ 0 → ⊥) → Told (Refused k) d
+  told-lent k h z = told-refused k (first-due (lentCauses n t q s0 s1) last (λ y. z (h ∙ y)) ∙ sym h) z
 
   -- no cause of what is lent, and the answer a
-  module _ (clear : All (λ c. c .applies ≡ false) (lent n t q s0 s1)) (a : Answer) (e : combineAnswer n t q s0 s1 ≡ a) where
+  module _ (clear : Clear (lentCauses n t q s0 s1)) (a : Answer) (e : combineAnswer n t q s0 s1 ≡ a) where
     -- it does not fit, or passes the limit
     abbrev tooLarge : Bool
     tooLarge = ltb (length d) (length (answerBytes (prefixLength q) a)) || passesLimit a
 
     last-number : numberDue (combineCauses n t q s0 s1 (length d)) ≡ cond tooLarge 11 0
-    last-number = number-after (lent n t q s0 s1) last clear ∙ rw e
+    last-number = second-due (lentCauses n t q s0 s1) last clear ∙ rw e
 
     pub told-large : tooLarge ≡ true → Told (Refused 11) d
     told-large h = told-refused 11 (last-number ∙ rw h) (λ z. omega arith)
@@ -126,7 +109,7 @@ module _ (n t : ℕ) (q s0 s1 : List ℕ) (d : List ℕ) where
     unfolding combineOutcome combineKind
     told-answer h r out number what size space =
         let o : judged (combineCauses n t q s0 s1 (length d)) (combineBytes n t q s0 s1) ≡ accepted (answerBytes (prefixLength q) a) =
-        judged-after (lent n t q s0 s1) last (combineBytes n t q s0 s1) clear ∙ rw (e, h) in
+        judged-second (lentCauses n t q s0 s1) last (combineBytes n t q s0 s1) clear ∙ rw (e, h) in
         (rw o number, (rw (last-number, h, e) what, (rw o size, rw o space)))
 
 -- ---- the answer

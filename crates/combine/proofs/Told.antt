@@ -1,25 +1,24 @@
 -- What `combine` returns where no cause of what is lent applies, in the numbers that the code has. Assumes nothing.
 use Prim.Native.Nat.{ℕ, suc, _+_, _*_, _≤_, _<_}
 use native.Mathlib.Omega.{arith}
-use mathlib.Core.Path.{_≡_, refl, sym, ap, _∙_}
+use mathlib.Core.Path.{_≡_, refl, sym, _∙_}
 use mathlib.Core.Bool.{Bool, true, false, _||_}
-use mathlib.Core.List.{List, _++_, append-assoc}
+use mathlib.Core.List.{List}
 use borrow.Author.Tests.{lt-ltb, le-ltb}
-use lib.ListN.{length, getD, length-append}
-use lib.Dec.{leb, ltb}
-use Rattle.numbers.specs.Lists.{number}
+use lib.ListN.{length, getD}
+use lib.Dec.{ltb}
+use Rattle.places.specs.Lists.{number}
 use Rattle.bits.specs.Strings.{Bits}
-use Rattle.numbers.specs.Numbers.{big}
 use Rattle.bits.specs.Packing.{packedLength}
-use Rattle.numbers.specs.Places.{putAt}
-use Rattle.numbers.proofs.Endian.{big-length}
-use Rattle.numbers.proofs.Places.{putAt-overlay, putAt-more, overlay-nil}
+use Rattle.places.specs.Places.{putAt}
+use Rattle.places.proofs.Places.{putAt-overlay, overlay-nil}
 use Rattle.calls.proofs.Decisions.{neither-test}
-use Rattle.group.specs.Modular.{field}
+use Rattle.kept.specs.Kept.{reaches}
 use Rattle.query.specs.Query.{packs, query, limit, prefixLength, children}
+use Rattle.query.proofs.Pieces.{fields, query-put}
 use Rattle.combine.specs.declared.Combined.the-variants.{Next, List as Found, Ended, Refused}
-use Rattle.combine.specs.Answer.{numbers, added, next, list, ended}
-use Rattle.combine.specs.Combine.{keptPrefixes}
+use Rattle.combine.specs.Answer.{next, list, ended}
+use Rattle.combine.specs.Combine.{shareTotals, keptPrefixes}
 use Rattle.combine.proofs.Ready.{Ready, kept-count, list-size, next-count, next-size, children-size}
 use Rattle.combine.proofs.Outcome.{Told, told-large, told-answer, answer-list, answer-ended, answer-next}
 
@@ -29,18 +28,18 @@ or-right false b h = h
 
 -- m are kept; len is the prefix length, w the bytes of a prefix
 module _ (n t : ℕ) (q s0 s1 d : List ℕ) (byte : (i : ℕ) → getD q i 0 < 256) (r : Ready n t q s0 s1)
-    (m : ℕ) (em : m ≡ number (leb t) (added field (numbers s0) (numbers s1))) (len : ℕ) (el : len ≡ prefixLength q) where
+    (m : ℕ) (em : m ≡ number (reaches t) (shareTotals s0 s1)) (len : ℕ) (el : len ≡ prefixLength q) where
   abbrev ks : List Bits
   ks = keptPrefixes t q s0 s1
 
   kept-m : length ks ≡ m
-  kept-m = kept-count n t q s0 s1 byte r m em
+  kept-m = kept-count n t q s0 s1 byte r (reaches t) m em
 
   -- ---- at length n
 
   module _ (e : len ≡ n) (w : ℕ) (ew : w ≡ packedLength len) where
     pub list-bytes : length (packs ks) ≡ m * w
-    list-bytes = list-size n t q s0 s1 byte r m em ∙ rw (ew, el)
+    list-bytes = list-size n t q s0 s1 byte r (reaches t) m em ∙ rw (ew, el)
 
     pub list-short : length d < m * w → Told n t q s0 s1 d (Refused 11) d
     list-short h =
@@ -71,11 +70,11 @@ module _ (n t : ℕ) (q s0 s1 d : List ℕ) (byte : (i : ℕ) → getD q i 0 < 2
       pub too-many : 65535 < m → Told n t q s0 s1 d (Refused 11) d
       too-many h =
           told-large n t q s0 s1 d (r .clear) (next qs) (answer-next n t q s0 s1 not-end (omega (arith, kept-m)))
-          (or-right (ltb (length d) (length (query (prefixLength q) qs))) (ltb limit (length qs)) (lt-ltb limit (length qs) (omega (arith, next-count n t q s0 s1 byte r m em))))
+          (or-right (ltb (length d) (length (query (prefixLength q) qs))) (ltb limit (length qs)) (lt-ltb limit (length qs) (omega (arith, next-count n t q s0 s1 byte r (reaches t) m em))))
 
       module _ (w : ℕ) (ew : w ≡ packedLength (suc len)) where
         next-bytes : length (query (prefixLength q) qs) ≡ 6 + 2 * m * w
-        next-bytes = next-size n t q s0 s1 byte r m em ∙ rw (ew, el)
+        next-bytes = next-size n t q s0 s1 byte r (reaches t) m em ∙ rw (ew, el)
 
         pub next-short : length d < 6 + 2 * m * w → Told n t q s0 s1 d (Refused 11) d
         next-short h =
@@ -83,29 +82,19 @@ module _ (n t : ℕ) (q s0 s1 d : List ℕ) (byte : (i : ℕ) → getD q i 0 < 2
             (rw (lt-ltb (length d) (length (query (prefixLength q) qs)) (omega (arith, next-bytes))))
 
         pub children-bytes : length (packs qs) ≡ 2 * m * w
-        children-bytes = children-size n t q s0 s1 byte r m em ∙ rw (ew, el)
-
-        heading-length : 6 ≡ 0 + length (big 2 len ++ big 4 (2 * m))
-        heading-length = omega (arith, length-append (big 2 len) (big 4 (2 * m)), big-length 2 len, big-length 4 (2 * m))
+        children-bytes = children-size n t q s0 s1 byte r (reaches t) m em ∙ rw (ew, el)
 
         -- the heading and then the children make the next query
-        next-put : 6 + 2 * m * w ≤ length d → (o₁ out : List ℕ) → o₁ ≡ putAt d 0 (big 2 len ++ big 4 (2 * m)) → out ≡ putAt o₁ 6 (packs qs)
+        next-put : 6 + 2 * m * w ≤ length d → (o₁ out : List ℕ) → o₁ ≡ putAt d 0 (fields len (2 * m)) → out ≡ putAt o₁ 6 (packs qs)
             → out ≡ putAt d 0 (query (prefixLength q) qs)
-        unfolding query
         next-put h o₁ out p₁ p₂ =
-            let head = big 2 len ++ big 4 (2 * m) in
-            p₂
-            ∙ ap (λ (l : List ℕ). putAt l 6 (packs qs)) p₁
-            ∙ ap (λ (k : ℕ). putAt (putAt d 0 head) k (packs qs)) heading-length
-            ∙ putAt-more d 0 head (packs qs) (omega (arith, heading-length, children-bytes))
-            ∙ ap (putAt d 0) (append-assoc (big 2 len) (big 4 (2 * m)) (packs qs))
-            ∙ rw (next-count n t q s0 s1 byte r m em, el)
+            query-put (prefixLength q) (2 * m) qs (sym (next-count n t q s0 s1 byte r (reaches t) m em)) d 0 (omega (arith, next-bytes)) o₁ out (rw el at p₁) p₂
 
-        pub next-told : m ≤ 65535 → 6 + 2 * m * w ≤ length d → (o₁ out : List ℕ) → o₁ ≡ putAt d 0 (big 2 len ++ big 4 (2 * m)) → out ≡ putAt o₁ 6 (packs qs)
+        pub next-told : m ≤ 65535 → 6 + 2 * m * w ≤ length d → (o₁ out : List ℕ) → o₁ ≡ putAt d 0 (fields len (2 * m)) → out ≡ putAt o₁ 6 (packs qs)
             → Told n t q s0 s1 d (Next (6 + 2 * m * w)) out
         next-told few h o₁ out p₁ p₂ =
             let f : length (query (prefixLength q) qs) ≤ length d = omega (arith, next-bytes) in
-            let within : length qs ≤ limit = omega (arith, next-count n t q s0 s1 byte r m em) in
+            let within : length qs ≤ limit = omega (arith, next-count n t q s0 s1 byte r (reaches t) m em) in
             told-answer n t q s0 s1 d (r .clear) (next qs) (answer-next n t q s0 s1 not-end (omega (arith, kept-m)))
             (neither-test (le-ltb (length d) (length (query (prefixLength q) qs)) f) (le-ltb limit (length qs) within))
             (Next (6 + 2 * m * w)) out refl refl (sym next-bytes) (next-put h o₁ out p₁ p₂ ∙ putAt-overlay d (query (prefixLength q) qs) f)

@@ -1,6 +1,6 @@
 -- What combining answers: document 01, 'The search'. Assumes nothing.
 use Prim.Native.Nat.{ℕ, _/_}
-use mathlib.Core.Bool.{Bool, cond}
+use mathlib.Core.Bool.{cond}
 use mathlib.Core.List.{List, [], _∷_, map}
 use mathlib.Core.Option.{Option, none, some}
 use lib.ListN.{length}
@@ -12,7 +12,7 @@ use Rattle.query.specs.Query.{packs, query, parts, children}
 use Rattle.combine.specs.declared.Combined.{Combined}
 use Rattle.combine.specs.declared.Combined.the-variants.{Next, List as Found, Ended, Refused}
 
--- ---- totals and kept prefixes
+-- ---- totals
 
 -- the numbers of a share, 8 bytes each
 abbrev pub numbers : List ℕ → List ℕ
@@ -23,12 +23,6 @@ abbrev pub added : Group ℕ → List ℕ → List ℕ → List ℕ
 added G [] ys = []
 added G (x ∷ xs) [] = []
 added G (x ∷ xs) (y ∷ ys) = G .add x y ∷ added G xs ys
-
--- the prefixes that are kept: those whose total reaches the threshold
-abbrev pub kept : (ℕ → Bool) → List Bits → List ℕ → List Bits
-kept reaches [] xs = []
-kept reaches (q ∷ qs) [] = []
-kept reaches (q ∷ qs) (x ∷ xs) = cond (reaches x) (q ∷ kept reaches qs xs) (kept reaches qs xs)
 
 -- ---- the answer
 

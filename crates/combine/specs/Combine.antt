@@ -1,19 +1,23 @@
 -- The call `combine`: document 01, 'The search' and 'Causes of refusal'. Assumes nothing.
 use Prim.Native.Nat.{ℕ, _*_, _%_, _≤_, _<_}
 use mathlib.Core.Bool.{Bool, true, false, cond, not, _&&_, _||_}
-use mathlib.Core.List.{List, [], _∷_}
+use mathlib.Core.List.{List, [], _∷_, _++_}
 use mathlib.Core.Logic.{_≢_, _⊎_}
 use mathlib.Core.Option.{Option, none, some}
 use lib.ListN.{length}
-use lib.Dec.{leb, ltb, eqb}
-use Rattle.numbers.specs.Lists.{_∈_}
+use lib.Dec.{ltb, eqb}
+use Rattle.places.specs.Lists.{_∈_}
+use Rattle.places.specs.Places.{overlay}
 use Rattle.bits.specs.Strings.{Bits}
-use Rattle.calls.specs.Bounds.{LengthOutside, lengthOutside, ThresholdOutside, thresholdOutside}
-use Rattle.calls.specs.Causes.{Cause, cause, numberDue, Outcome, judged}
-use Rattle.calls.specs.Clauses.{Clause, clause}
-use Rattle.group.specs.Modular.{p, field}
+use Rattle.calls.specs.Bounds.{lengthCause, thresholdCause}
+use Rattle.calls.specs.Causes.{Cause, cause, numberDue}
+use Rattle.calls.specs.Outcome.{Outcome, judged}
+use Rattle.group.specs.Modular.{modulus, field}
+use Rattle.kept.specs.declared.Rule.{Rule}
+use Rattle.kept.specs.Kept.{reaches, reachesBy, kept}
 use Rattle.query.specs.Query.{limit, IsQuery, isQuery, prefixLength, prefixCount, prefixesOf}
-use Rattle.combine.specs.Answer.{numbers, added, kept, Answer, next, list, ended, answer, answerBytes, Kind, kind}
+use Rattle.combine.specs.Answer.{numbers, added, Answer, next, list, ended, answer, answerBytes, Kind, kind, numberOf, lengthOf, kindOf}
+use Rattle.combine.specs.declared.Combined.{Combined}
 
 -- Two lent shares have the wrong length: their lengths differ or are no multiple of 8, or the query passes 9 and its count is another.
 abbrev pub WrongShares : ℕ → List ℕ → List ℕ → List ℕ → Type 0
@@ -27,16 +31,28 @@ wrongShares n query share0 share1 =
 
 -- a number of the share is p or more
 abbrev pub NumberTooLarge : List ℕ → Type 0
-NumberTooLarge share = (x : ℕ) × (x ∈ numbers share) × (p ≤ x)
+NumberTooLarge share = (x : ℕ) × (x ∈ numbers share) × (modulus ≤ x)
 
 -- whether every number of the list is below p
 unfoldable pub allBelow : List ℕ → Bool
 allBelow [] = true
-allBelow (x ∷ xs) = ltb x p && allBelow xs
+allBelow (x ∷ xs) = ltb x modulus && allBelow xs
 
--- the kept prefixes of the query: those whose total, a whole number below p, is at least t
+-- the totals of two shares, each a whole number below p
+abbrev pub shareTotals : List ℕ → List ℕ → List ℕ
+shareTotals share0 share1 = added field (numbers share0) (numbers share1)
+
+-- the prefixes of the query whose total passes a test
+abbrev pub passing : (ℕ → Bool) → List ℕ → List ℕ → List ℕ → List Bits
+passing passes query share0 share1 = kept passes (prefixesOf query) (shareTotals share0 share1)
+
+-- those that a rule keeps
+abbrev pub keptBy : Rule → List ℕ → List ℕ → List ℕ → List Bits
+keptBy rule = passing (reachesBy rule)
+
+-- the kept prefixes of the query: those whose total is at least t
 abbrev pub keptPrefixes : ℕ → List ℕ → List ℕ → List ℕ → List Bits
-keptPrefixes t query share0 share1 = kept (leb t) (prefixesOf query) (added field (numbers share0) (numbers share1))
+keptPrefixes t = passing (reaches t)
 
 -- the answer
 abbrev pub combineAnswer : ℕ → ℕ → List ℕ → List ℕ → List ℕ → Answer
@@ -57,27 +73,26 @@ passesLimit (next qs) = ltb limit (length qs)
 passesLimit (list ss) = false
 passesLimit ended = false
 
--- the causes in words
-abbrev pub combineClauses : ℕ → ℕ → List ℕ → List ℕ → List ℕ → ℕ → List Clause
-combineClauses n t query share0 share1 room =
-    clause 1 (LengthOutside n)
-    ∷ clause 2 (ThresholdOutside t)
-    ∷ clause 4 (WrongShares n query share0 share1)
-    ∷ clause 6 (NumberTooLarge share0 ⊎ NumberTooLarge share1)
-    ∷ clause 9 (IsQuery n query → ⊥)
-    ∷ clause 11 ((room < length (combineBytes n t query share0 share1)) ⊎ PassesLimit (combineAnswer n t query share0 share1))
+-- the causes of what is lent
+abbrev pub lentCauses : ℕ → ℕ → List ℕ → List ℕ → List ℕ → List Cause
+lentCauses n t query share0 share1 =
+    lengthCause n
+    ∷ thresholdCause t
+    ∷ cause 4 (WrongShares n query share0 share1) (wrongShares n query share0 share1)
+    ∷ cause 6 (NumberTooLarge share0 ⊎ NumberTooLarge share1) (not (allBelow (numbers share0)) || not (allBelow (numbers share1)))
+    ∷ cause 9 (IsQuery n query → ⊥) (not (isQuery n query))
     ∷ []
 
--- the same, as they are tested
-abbrev pub combineCauses : ℕ → ℕ → List ℕ → List ℕ → List ℕ → ℕ → List Cause
-combineCauses n t query share0 share1 room =
-    cause 1 (lengthOutside n)
-    ∷ cause 2 (thresholdOutside t)
-    ∷ cause 4 (wrongShares n query share0 share1)
-    ∷ cause 6 (not (allBelow (numbers share0)) || not (allBelow (numbers share1)))
-    ∷ cause 9 (not (isQuery n query))
-    ∷ cause 11 (ltb room (length (combineBytes n t query share0 share1)) || passesLimit (combineAnswer n t query share0 share1))
+-- the cause of what is to be written
+abbrev pub spaceCauses : ℕ → ℕ → List ℕ → List ℕ → List ℕ → ℕ → List Cause
+spaceCauses n t query share0 share1 room =
+    cause 11 ((room < length (combineBytes n t query share0 share1)) ⊎ PassesLimit (combineAnswer n t query share0 share1))
+    (ltb room (length (combineBytes n t query share0 share1)) || passesLimit (combineAnswer n t query share0 share1))
     ∷ []
+
+-- all, in the order in which they are judged
+abbrev pub combineCauses : ℕ → ℕ → List ℕ → List ℕ → List ℕ → ℕ → List Cause
+combineCauses n t query share0 share1 room = lentCauses n t query share0 share1 ++ spaceCauses n t query share0 share1 room
 
 -- the outcome: the number, and what is written
 unfoldable pub combineOutcome : ℕ → ℕ → List ℕ → List ℕ → List ℕ → ℕ → Outcome
@@ -89,3 +104,20 @@ kindWith number a = cond (eqb number 0) (some (kind a)) none
 
 unfoldable pub combineKind : ℕ → ℕ → List ℕ → List ℕ → List ℕ → ℕ → Option Kind
 combineKind n t query share0 share1 room = kindWith (numberDue (combineCauses n t query share0 share1 room)) (combineAnswer n t query share0 share1)
+
+-- The number, the kind of answer and the length that the call returns, and the lent space at exit.
+pub record CombineExit : Type 0 where
+  pub number : ℕ
+  pub kind : Option Kind
+  pub length : ℕ
+  pub space : List ℕ
+
+-- what the call returns, and the space that it is lent, at exit
+abbrev pub combineExit : ℕ → ℕ → List ℕ → List ℕ → List ℕ → List ℕ → CombineExit
+combineExit n t query share0 share1 space =
+    let o = combineOutcome n t query share0 share1 (length space) in
+    record { number = o .number; kind = combineKind n t query share0 share1 (length space); length = length (o .written); space = overlay (o .written) space }
+
+-- what was returned, and the space as it was left
+unfoldable pub told : Combined → List ℕ → CombineExit
+told r space = record { number = numberOf r; kind = kindOf r; length = lengthOf r; space = space }

@@ -2,16 +2,17 @@
 ghost use mathlib.Core.Path.{_≡_};
 ghost use mathlib.Core.Bool.{not, _&&_, _||_};
 ghost use Prim.Native.Nat.{_*_, _%_};
-ghost use lib.ListN.{length, take};
+ghost use lib.ListN.{length};
 ghost use lib.Dec.{eqb};
 ghost use Rattle.calls.specs.Causes.{numberDue};
 ghost use Rattle.query.specs.Query.{prefixCount};
 ghost use Rattle.combine.specs.Answer.{numbers};
-ghost use Rattle.combine.specs.Combine.{allBelow, combineCauses};
+ghost use Rattle.combine.specs.Combine.{allBelow, lentCauses};
 
 // Whether the shares have the wrong length, where `passes` tells whether the query passes 9.
 fn wrong_shares(passes: bool, query: &[u8], share0: &[u8], share1: &[u8]) -> bool
-    ensures { λ r. ⌜ r ≡ (not (eqb (length (now (share0 .entry))) (length (now (share1 .entry)))) || (not (eqb (length (now (share0 .entry)) % 8) 0) || (passes && not (eqb (length (now (share0 .entry))) (8 * prefixCount (now (query .entry))))))) ⌝ }
+    ensures { λ r. ⌜ r ≡ (not (eqb (length (now (share0 .entry))) (length (now (share1 .entry)))) ||
+        (not (eqb (length (now (share0 .entry)) % 8) 0) || (passes && not (eqb (length (now (share0 .entry))) (8 * prefixCount (now (query .entry))))))) ⌝ }
 {
     if share0.len() != share1.len() {
         return true;
@@ -53,18 +54,12 @@ fn both_below(share0: &[u8], share1: &[u8]) -> bool
 
 // The number of the first of these causes that applies, or 0.
 pub(crate) fn first_cause(n: u64, t: u64, query: &[u8], share0: &[u8], share1: &[u8]) -> u64
-    ensures { λ r. ⌜ r ≡ numberDue (take 5 (combineCauses n t (now (query .entry)) (now (share0 .entry)) (now (share1 .entry)) 0)) ⌝ }
+    ensures { λ r. ⌜ r ≡ numberDue (lentCauses n t (now (query .entry)) (now (share0 .entry)) (now (share1 .entry))) ⌝ }
 {
-    if n < 1 {
+    if calls::length_outside(n) {
         return 1;
     }
-    if 256 < n {
-        return 1;
-    }
-    if t < 1 {
-        return 2;
-    }
-    if 65535 < t {
+    if calls::threshold_outside(t) {
         return 2;
     }
     let a_query = query::is_query(n, query);

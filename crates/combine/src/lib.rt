@@ -1,17 +1,14 @@
 // Combining two servers' shares for a query: the next query, the list, or the end of the search.
 use crate::checks::first_cause;
-use crate::kept::count_kept;
-use crate::writing::write_children;
-use crate::writing::write_list;
+use crate::totals::count_kept;
+use crate::writing::write_kept;
 use bits::packed_length;
+use kept::Rule;
 ghost use mathlib.Core.Path.{_≡_};
-ghost use lib.ListN.{length};
-ghost use Rattle.numbers.specs.Places.{overlay};
-ghost use Rattle.combine.specs.Answer.{numberOf, lengthOf, kindOf};
-ghost use Rattle.combine.specs.Combine.{combineOutcome, combineKind};
+ghost use Rattle.combine.specs.Combine.{combineExit, told};
 
 mod checks;
-mod kept;
+mod totals;
 mod writing;
 
 // What combining answers: the next query or the list, with its length in bytes; the end of the search; or the number of the cause that refused it.
@@ -31,10 +28,7 @@ pub fn combine(
     share1: &[u8],
     out: &mut [u8],
 ) -> Combined
-    ensures number { λ r. ⌜ numberOf r ≡ combineOutcome n t (now (query .entry)) (now (share0 .entry)) (now (share1 .entry)) (length (now (out .entry))) .number ⌝ }
-    ensures kind { λ r. ⌜ kindOf r ≡ combineKind n t (now (query .entry)) (now (share0 .entry)) (now (share1 .entry)) (length (now (out .entry))) ⌝ }
-    ensures written { λ r. ⌜ lengthOf r ≡ length (combineOutcome n t (now (query .entry)) (now (share0 .entry)) (now (share1 .entry)) (length (now (out .entry))) .written) ⌝ }
-    ensures space { λ r. ⌜ now (out .exit) ≡ overlay (combineOutcome n t (now (query .entry)) (now (share0 .entry)) (now (share1 .entry)) (length (now (out .entry))) .written) (now (out .entry)) ⌝ }
+    ensures { λ r. ⌜ told r (now (out .exit)) ≡ combineExit n t (now (query .entry)) (now (share0 .entry)) (now (share1 .entry)) (now (out .entry)) ⌝ }
 {
     let number = first_cause(n, t, query, share0, share1);
     if number != 0 {
@@ -42,13 +36,14 @@ pub fn combine(
     }
     let len = query::prefix_length(query);
     let longer = len + 1;
-    let kept = count_kept(t, share0, share1);
+    let rule = Rule { t };
+    let kept = count_kept(rule, share0, share1);
     if len as u64 == n {
         let list_size = kept * packed_length(len);
         if out.len() < list_size {
             return Combined::Refused(11);
         }
-        write_list(t, query, share0, share1, out);
+        write_kept(true, rule, query, share0, share1, out, 0);
         return Combined::List(list_size as u64);
     }
     if kept < 1 {
@@ -62,6 +57,6 @@ pub fn combine(
         return Combined::Refused(11);
     }
     query::write_heading(out, 0, len as u64, 2 * kept as u64);
-    write_children(t, query, share0, share1, out, 6);
+    write_kept(false, rule, query, share0, share1, out, 6);
     Combined::Next(next_size as u64)
 }

@@ -1,111 +1,79 @@
 // The kept prefixes of a query, or their children, one after the other.
-use crate::kept::is_kept;
+use crate::totals::is_kept;
 use bits::packed_length;
-use numbers::copy;
+use kept::Rule;
 use query::prefix_count;
 use query::prefix_length;
-use query::write_child;
+use query::write_both_children;
+use query::write_prefix;
 ghost use mathlib.Core.Path.{_≡_};
-ghost use mathlib.Core.Bool.{true, false, cond};
-ghost use mathlib.Core.List.{[], _++_};
-ghost use Prim.Native.Nat.{suc, _+_, _*_, _≤_};
-ghost use lib.ListN.{length, take, drop};
-ghost use Rattle.bits.specs.Strings.{_▹_};
-ghost use Rattle.bits.specs.Packing.{packedLength, pack, unpack};
-ghost use Rattle.numbers.specs.Places.{putAt};
-ghost use Rattle.query.specs.Query.{packs, prefixLength, prefixCount, packedPrefixes, sparesZero, children};
-ghost use Rattle.combine.specs.Combine.{keptPrefixes};
+ghost use mathlib.Core.Bool.{true, cond};
+ghost use mathlib.Core.List.{[]};
+ghost use Prim.Native.Nat.{_+_, _*_, _≤_};
+ghost use lib.ListN.{length};
+ghost use Rattle.bits.specs.Packing.{packedLength};
+ghost use Rattle.places.specs.Places.{putAt};
+ghost use Rattle.query.specs.Query.{packs, prefixLength, prefixCount, packedPrefixes, sparesZero};
+ghost use Rattle.query.specs.Prefix.{part};
+ghost use Rattle.query.specs.Written.{fitting};
+ghost use Rattle.query.proofs.Pieces.{onward, onwardBytes};
+ghost use Rattle.combine.specs.Combine.{keptBy};
 
-// The packed prefix in w bytes from place `from` on, into the places from `at` on if it is kept; and the place after it.
-fn put_prefix(kept: bool, query: &[u8], from: usize, w: usize, out: &mut [u8], at: usize) -> usize
-    requires { ⌜ (from + w ≤ length (now query)) × (kept ≡ true → at + w ≤ length (now out)) ⌝ }
-    ensures { λ _. ⌜ now (out .exit) ≡ putAt (now (out .entry)) at (cond kept (take w (drop from (now (query .entry)))) []) ⌝ }
-    ensures { λ r. ⌜ r ≡ at + length (cond kept (take w (drop from (now (query .entry)))) []) ⌝ }
-{
-    if !kept {
-        return at;
-    }
-    let end = from + w;
-    copy(&query[from..end], out, at);
-    at + w
-}
-
-// Both children of the prefix of len bits, w bytes from place `from` on, into the places from `at` on, `size` bytes each, if it is kept; and the place after them.
-fn put_children(
+// The packed prefix of len bits in the w bytes from place `from` on, where `last`, and else both its children, into the places from `at` on if it is
+// kept; and the place after what is written.
+fn write_one(
+    last: bool,
     kept: bool,
-    query: &[u8],
+    q: &[u8],
     from: usize,
-    len: usize,
     w: usize,
-    size: usize,
+    len: usize,
     out: &mut [u8],
     at: usize,
 ) -> usize
-    requires { ⌜ (from + w ≤ length (now query)) × (w ≡ packedLength len) × (size ≡ packedLength (suc len)) × (kept ≡ true → at + size + size ≤ length (now out)) ⌝ }
-    ensures { λ _. ⌜ now (out .exit) ≡ putAt (now (out .entry)) at (cond kept (pack (unpack len (take w (drop from (now (query .entry)))) ▹ false) ++ pack (unpack len (take w (drop from (now (query .entry)))) ▹ true)) []) ⌝ }
-    ensures { λ r. ⌜ r ≡ at + length (cond kept (pack (unpack len (take w (drop from (now (query .entry)))) ▹ false) ++ pack (unpack len (take w (drop from (now (query .entry)))) ▹ true)) []) ⌝ }
+    requires { ⌜ from + w ≤ length (now q) ⌝ }
+    ensures { λ _. ⌜ now (out .exit) ≡ putAt (now (out .entry)) at (cond kept (onwardBytes last len (part w from (now (q .entry)))) []) ⌝ }
+    ensures { λ r. ⌜ r ≡ at + length (fitting (now (out .entry)) at (cond kept (onwardBytes last len (part w from (now (q .entry)))) [])) ⌝ }
 {
-    if !kept {
-        return at;
+    if last {
+        return write_prefix(kept, q, from, w, out, at);
     }
     let end = from + w;
-    let second = at + size;
-    write_child(&query[from..end], len, false, out, at);
-    write_child(&query[from..end], len, true, out, second);
-    second + size
+    write_both_children(kept, &q[from..end], len, out, at)
 }
 
-// Writes the kept prefixes of a query, from the beginning of `out` on.
-pub(crate) fn write_list(t: u64, query: &[u8], share0: &[u8], share1: &[u8], out: &mut [u8])
-    requires { ⌜ (6 + prefixCount (now query) * packedLength (prefixLength (now query)) ≤ length (now query)) × (sparesZero (prefixLength (now query)) (packedPrefixes (now query)) ≡ true) ⌝ }
-    requires { ⌜ (length (now share0) ≡ 8 * prefixCount (now query)) × (length (now share1) ≡ 8 * prefixCount (now query)) ⌝ }
-    requires { ⌜ length (packs (keptPrefixes t (now query) (now share0) (now share1))) ≤ length (now out) ⌝ }
-    ensures { λ _. ⌜ now (out .exit) ≡ putAt (now (out .entry)) 0 (packs (keptPrefixes t (now (query .entry)) (now (share0 .entry)) (now (share1 .entry)))) ⌝ }
-{
-    let w = packed_length(prefix_length(query));
-    let mut left = prefix_count(query);
-    let mut from = 6;
-    let mut place = 0;
-    let mut at = 0;
-    while 0 < left {
-        at = put_prefix(is_kept(t, share0, share1, place), query, from, w, out, at);
-        from += w;
-        place += 8;
-        left -= 1;
-    }
-}
-
-// Writes both children of each kept prefix of a query, from place `start` of `out` on.
-pub(crate) fn write_children(
-    t: u64,
-    query: &[u8],
-    share0: &[u8],
-    share1: &[u8],
+// Writes the kept prefixes of a query where `last`, and else both children of each, from place `at` of `out` on.
+pub(crate) fn write_kept(
+    last: bool,
+    rule: Rule,
+    q: &[u8],
+    s0: &[u8],
+    s1: &[u8],
     out: &mut [u8],
-    start: usize,
+    at: usize,
 )
-    requires { ⌜ 6 + prefixCount (now query) * packedLength (prefixLength (now query)) ≤ length (now query) ⌝ }
-    requires { ⌜ (length (now share0) ≡ 8 * prefixCount (now query)) × (length (now share1) ≡ 8 * prefixCount (now query)) ⌝ }
-    requires { ⌜ start + length (packs (children (keptPrefixes t (now query) (now share0) (now share1)))) ≤ length (now out) ⌝ }
-    ensures { λ _. ⌜ now (out .exit) ≡ putAt (now (out .entry)) start (packs (children (keptPrefixes t (now (query .entry)) (now (share0 .entry)) (now (share1 .entry))))) ⌝ }
+    requires { ⌜ 6 + prefixCount (now q) * packedLength (prefixLength (now q)) ≤ length (now q) ⌝ }
+    requires { ⌜ sparesZero (prefixLength (now q)) (packedPrefixes (now q)) ≡ true ⌝ }
+    requires { ⌜ (length (now s0) ≡ 8 * prefixCount (now q)) × (length (now s1) ≡ 8 * prefixCount (now q)) ⌝ }
+    requires { ⌜ at + length (packs (onward last (keptBy rule (now q) (now s0) (now s1)))) ≤ length (now out) ⌝ }
+    ensures { λ _. ⌜ now (out .exit) ≡ putAt (now (out .entry)) at (packs (onward last (keptBy rule (now (q .entry)) (now (s0 .entry)) (now (s1 .entry))))) ⌝ }
 {
-    let len = prefix_length(query);
+    let len = prefix_length(q);
     let w = packed_length(len);
-    let size = packed_length(len + 1);
-    let mut left = prefix_count(query);
+    let mut left = prefix_count(q);
     let mut from = 6;
     let mut place = 0;
-    let mut at = start;
+    let mut here = at;
     while 0 < left {
-        at = put_children(
-            is_kept(t, share0, share1, place),
-            query,
+        here = write_one(
+            last,
+            is_kept(rule, s0, s1, place),
+            q,
             from,
-            len,
             w,
-            size,
+            len,
             out,
-            at,
+            here,
         );
         from += w;
         place += 8;

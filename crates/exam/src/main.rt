@@ -63,7 +63,7 @@ fn put(bytes: &[u8]) {
 // Writes the answer to an exam text, or the line of its refusal.
 fn reply(text: &[u8]) {
     let mut out = io::large_buffer();
-    let reply = exam_text::respond(text, &mut out);
+    let reply = exam_answering::respond(text, &mut out);
     put(&out[..reply.length as usize]);
 }
 

@@ -4,7 +4,7 @@ use libc::STDOUT_FILENO;
 // Writes the number for an exam text, and the answer behind it.
 fn show(text: &[u8]) {
     let mut out = io::large_buffer();
-    let reply = exam_text::answer(text, &mut out);
+    let reply = exam_answering::answer(text, &mut out);
     io::print_decimal(STDOUT_FILENO, reply.number);
     io::write_all(STDOUT_FILENO, b"\n");
     io::write_all(STDOUT_FILENO, &out[..reply.length as usize]);

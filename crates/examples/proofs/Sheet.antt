@@ -8,13 +8,13 @@ use native.Mathlib.Omega.{arith}
 use lib.ListN.{length}
 use borrow.Author.Tests.{le-ltb}
 use lib.Dec.{ltb}
-use Rattle.numbers.specs.Lists.{All}
+use Rattle.places.specs.Lists.{All}
 use Rattle.bits.specs.Strings.{Bits}
 use Rattle.numbers.specs.Numbers.{little, fromLittle, big, fromBig}
 use Rattle.bits.specs.Packing.{value, packIn, pack, digits, bitsOf, unpack, spareZero}
-use Rattle.numbers.specs.Places.{window, putAt}
-use Rattle.calls.specs.Bounds.{lengthOutside, thresholdOutside}
-use Rattle.calls.specs.Causes.{accepted}
+use Rattle.places.specs.Places.{window, putAt}
+use Rattle.calls.specs.Bounds.{mostBits, mostThreshold, outside}
+use Rattle.calls.specs.Outcome.{accepted}
 use Rattle.calls.proofs.Judged.{_&_}
 use Rattle.expander.specs.Expander.{isExpander, classroomBlock, xorBytes}
 use Rattle.point.specs.Node.{controlBit, cleared, child, final, payloadOf}
@@ -27,14 +27,14 @@ use Rattle.query.specs.Query.{packs, query, parts, sparesZero, isAscending, isQ
 use Rattle.tree.specs.Search.{heading, searchRecord, searchList}
 use Rattle.tree.specs.Cut.{honestRecord, honestList, cut}
 use Rattle.keymaker.specs.Key.{keyBytes, keyOutcome}
-use Rattle.idpf.specs.Reports.{sumBelow, lentShare, serverSum}
+use Rattle.idpf.specs.Reports.{sumWhere, lentShare, serverSum}
 use Rattle.idpf.specs.Share.{shareBytes, shareOutcome}
-use Rattle.exam_text.specs.Characters.{binary, decimalIn}
-use Rattle.exam_text.specs.Sheet.{Line, Sheet, strings, expanderNumber, text}
-use Rattle.exam_text.specs.Exam.{examOutcome, answerSpace, outputFor, output}
-use Rattle.exam_text.specs.Answer.{heavyLines, prefixLines, queriedFrom, answerText}
-use Rattle.exam_text.proofs.Exam.{sheet-outcome}
-use Rattle.exam_text.proofs.SameAnswer.{same-answer}
+use Rattle.exam_reading.specs.Characters.{binary, decimalIn}
+use Rattle.exam_reading.specs.Sheet.{Line, Sheet, strings, expanderNumber, text}
+use Rattle.exam_answering.specs.Exam.{examOutcome, answerSpace, outputFor, output}
+use Rattle.exam_answering.specs.Answer.{heavyLines, prefixLines, queriedFrom, answerText}
+use Rattle.exam_answering.proofs.Exam.{sheet-outcome}
+use Rattle.exam_answering.proofs.SameAnswer.{same-answer}
 use Rattle.examples.specs.Sheet.{Holds, searchOf, numberWith, outputOf, table, s01, s11}
 use Rattle.honest.proofs.Counted.{accepted-record, accepted-list}
 use Rattle.honest.proofs.Accepting.{listed-number}
@@ -46,7 +46,7 @@ keys = tt
 
 -- Naming `calls` opens every definition that the calls and a query run through.
 calls : Unit {0}
-unfolding big fromBig value packIn pack digits bitsOf unpack spareZero putAt packs query parts sparesZero isAscending isQuery keyBytes keyOutcome sumBelow lentShare serverSum shareBytes shareOutcome
+unfolding big fromBig value packIn pack digits bitsOf unpack spareZero putAt packs query parts sparesZero isAscending isQuery keyBytes keyOutcome sumWhere lentShare serverSum shareBytes shareOutcome
 calls = tt
 
 -- Naming `records` opens every definition that a record, a list and a cut string run through.
@@ -75,7 +75,7 @@ number-row n t xs room from to least most few s honest bits threshold known area
     ∙ ap₂ (λ (r m : ℕ). cond (ltb r m) 11 0) area (ap₂ (λ (m u : ℕ). length (honestRecord m u xs)) bits threshold)
 
 -- An output row holds where n, t and the expander pass, and the answer to one sheet of these strings is that of the row.
-output-row : (d : Sheet) (bytes : List ℕ) → lengthOutside (d .n) ≡ false → thresholdOutside (d .t) ≡ false → isExpander (expanderNumber (d .expander)) ≡ true
+output-row : (d : Sheet) (bytes : List ℕ) → outside mostBits (d .n) ≡ false → outside mostThreshold (d .t) ≡ false → isExpander (expanderNumber (d .expander)) ≡ true
     → answerText d ≡ bytes → length bytes ≤ answerSpace → Holds (outputOf (d .n) (d .t) (d .expander) (strings d) bytes)
 unfolding output
 output-row d bytes n-in t-in known answer fits s within same-n same-t same-expander same-strings =

@@ -8,20 +8,20 @@ use lib.ListN.{length, replicate}
 use Rattle.bits.specs.Strings.{Bits}
 use Rattle.numbers.specs.Numbers.{little, fromLittle}
 use Rattle.bits.specs.Packing.{pack}
-use Rattle.numbers.specs.Places.{putAt}
-use Rattle.calls.specs.Causes.{Outcome, accepted}
+use Rattle.places.specs.Places.{putAt}
+use Rattle.calls.specs.Outcome.{Outcome, accepted}
 use Rattle.expander.specs.Expander.{isExpander}
-use Rattle.group.specs.Modular.{p}
+use Rattle.group.specs.Modular.{modulus}
 use Rattle.point.specs.PublicShare.{publicShareLength, levelStart}
 use Rattle.query.specs.Query.{packs, query}
 use Rattle.tree.specs.Cut.{cuts}
 use Rattle.tree.specs.Space.{listSpace}
 use Rattle.keymaker.specs.Key.{keyOutcome}
 use Rattle.idpf.specs.Share.{shareOutcome}
-use Rattle.search.specs.Search.{Lent, searchNumber}
+use Rattle.search.specs.Search.{Lent, thresholdOf, searchNumber}
 use Rattle.honest.specs.Honest.{Accepted, recordRead, listRead, Honest}
-use Rattle.exam_text.specs.Sheet.{Sheet, strings, text, Within}
-use Rattle.exam_text.specs.Exam.{output}
+use Rattle.exam_reading.specs.Sheet.{Sheet, strings, text, Within}
+use Rattle.exam_answering.specs.Exam.{output}
 
 -- A key of the sheet: the number of its expander, its string and its root seeds.
 pub record Key : Type 0 where
@@ -69,11 +69,11 @@ Holds (sharesAt k q x y) =
     (answer k (keyOf k .written) false q ≡ accepted (little 8 x)) × (answer k (keyOf k .written) true q ≡ accepted (little 8 y))
 Holds (totalAt k q t) =
     let server : Bool → Outcome = λ b. answer k (keyOf k .written) b q in
-    (server false .number ≡ 0) × (server true .number ≡ 0) × ((fromLittle (server false .written) + fromLittle (server true .written)) % p ≡ t)
+    (server false .number ≡ 0) × (server true .number ≡ 0) × ((fromLittle (server false .written) + fromLittle (server true .written)) % modulus ≡ t)
 Holds (payloadAt k q x number) = (answer k (withPayload k x) false q .number ≡ number) × (answer k (withPayload k x) true q .number ≡ number)
-Holds (searchOf n t xs bytes ss) = (s : Lent) → Honest s xs → s .n ≡ n → s .t ≡ t → Accepted s → (recordRead s ≡ bytes) × (listRead s ≡ packs ss)
+Holds (searchOf n t xs bytes ss) = (s : Lent) → Honest s xs → s .n ≡ n → thresholdOf s ≡ t → Accepted s → (recordRead s ≡ bytes) × (listRead s ≡ packs ss)
 Holds (numberWith n t xs room number) =
-    (s : Lent) → Honest s xs → s .n ≡ n → s .t ≡ t → isExpander (s .expander) ≡ true → length (s .recordArea) ≡ room → listSpace n t (length xs) ≤ length (s .listArea)
+    (s : Lent) → Honest s xs → s .n ≡ n → thresholdOf s ≡ t → isExpander (s .expander) ≡ true → length (s .recordArea) ≡ room → listSpace n t (length xs) ≤ length (s .listArea)
     → searchNumber s ≡ number
 Holds (cutsOf t xs ss) = cuts t xs ≡ ss
 Holds (outputOf n t e xs bytes) = (s : Sheet) → Within s → s .n ≡ n → s .t ≡ t → s .expander ≡ e → strings s ≡ xs → output (text s) ≡ bytes
@@ -131,9 +131,9 @@ table =
     -- A
     publicShareOf keyA (1 ∷ (2 ∷ replicate 7 0) ++ (3 ∷ replicate 7 0) ++ (1 ∷ replicate 7 0))
     -- B
-    ∷ sharesAt keyA (true ∷ []) 6 (p - 5)
+    ∷ sharesAt keyA (true ∷ []) 6 (modulus - 5)
     -- C
-    ∷ sharesAt keyA (false ∷ []) 5 (p - 5)
+    ∷ sharesAt keyA (false ∷ []) 5 (modulus - 5)
     -- D
     ∷ searchOf 2 2 (s01 ∷ s01 ∷ s11 ∷ []) (twoLevels 2 1 0 2) (s01 ∷ [])
     ∷ cutsOf 2 (s01 ∷ s01 ∷ s11 ∷ []) (s01 ∷ s01 ∷ s1 ∷ [])
@@ -153,8 +153,8 @@ table =
     ∷ totalAt keyH (true ∷ []) 1
     ∷ totalAt keyH (false ∷ []) 0
     -- I
-    ∷ payloadAt keyA (true ∷ []) (p - 1) 0
-    ∷ payloadAt keyA (true ∷ []) p 6
+    ∷ payloadAt keyA (true ∷ []) (modulus - 1) 0
+    ∷ payloadAt keyA (true ∷ []) modulus 6
     -- J
     ∷ numberWith 2 2 (s01 ∷ s01 ∷ s11 ∷ []) 48 0
     ∷ numberWith 2 2 (s01 ∷ s01 ∷ s11 ∷ []) 47 11

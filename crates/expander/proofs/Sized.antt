@@ -3,7 +3,8 @@ use Prim.Native.Nat.{ℕ, zero, suc, _<_}
 use mathlib.Core.Path.{_≡_}
 use mathlib.Core.List.{List, [], _∷_, _++_}
 use lib.ListN.{length, getD, length-append}
-use Rattle.numbers.specs.Numbers.{Bytes, little}
+use Rattle.places.specs.Places.{Bytes}
+use Rattle.numbers.specs.Numbers.{little}
 use Rattle.numbers.proofs.Endian.{little-length, little-byte}
 use Rattle.aes.proofs.Bytes.{cipher-length, cipher-byte}
 use Rattle.expander.specs.Expander.{aesBlock, classroomBlock, blockOf}

@@ -7,7 +7,7 @@ use native.Mathlib.Omega.{arith}
 use lib.Arith.{bin-ind}
 use lib.Bits.{bitXor, differ, xor-step, xor-shr, xor-mod, xor-comm, xor-lt}
 use lib.ListN.{length, getD}
-use Rattle.numbers.specs.Numbers.{Bytes}
+use Rattle.places.specs.Places.{Bytes}
 use Rattle.expander.specs.Expander.{xorBytes}
 
 digit : (x y : ℕ) → x < 2 → y < 2 → differ x (bitXor x y) ≡ y

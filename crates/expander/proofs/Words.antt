@@ -7,9 +7,9 @@ use native.Mathlib.Omega.{arith}
 use lib.ListN.{length, take, drop, replicate, length-drop}
 use lib.Seq.{take-all}
 use Rattle.numbers.specs.Numbers.{little, fromLittle, big}
-use Rattle.numbers.specs.Places.{window, putAt}
+use Rattle.places.specs.Places.{window, putAt}
 use Rattle.numbers.proofs.Endian.{big-append}
-use Rattle.numbers.proofs.Places.{window-inside}
+use Rattle.places.proofs.Places.{window-inside}
 use Rattle.expander.specs.Expander.{classroomBlock}
 
 -- sixteen zeros with two words written over them

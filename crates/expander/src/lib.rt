@@ -4,7 +4,7 @@ use numbers::write_be8;
 use numbers::write_le8;
 use std::num::wrapping_add_u64;
 ghost use mathlib.Core.Path.{_≡_};
-ghost use Prim.Native.Nat.{_+_, _^_};
+ghost use Prim.Native.Nat.{_^_};
 ghost use mathlib.Core.List.{_++_};
 ghost use Rattle.numbers.specs.Numbers.{big, little};
 ghost use Rattle.expander.specs.Expander.{blockOf, classroomBlock, isExpander, choiceOf, xorBytes};

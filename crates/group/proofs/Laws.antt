@@ -17,11 +17,6 @@ module _ {A : Type 0} (G : Group A) {In : A → Type 0} (L : CommutativeGroup A 
   pub sub-intro : (w x y : A) → In w → In x → add w y ≡ x → add x (neg y) ≡ w
   sub-intro w x y hw hx e = rw (← e) (assoc w y (neg y) ∙ ap (add w) (inverse y) ∙ unit w hw)
 
-  pub neg-unique : (w y : A) → In w → add w y ≡ zero → neg y ≡ w
-  neg-unique w y hw e =
-      sym (unit (neg y) (L .in-neg y)) ∙ ap (add (neg y)) (sym e) ∙ left-comm (neg y) w y
-      ∙ ap (add w) (comm (neg y) y ∙ inverse y) ∙ unit w hw
-
   -- w − u + v, added to u, gives w and v
   pub shift : (w u v : A) → In v → add u (add (add w (neg u)) v) ≡ add w v
   shift w u v hv =

@@ -4,7 +4,7 @@ use Prim.Native.Nat.{ℕ, _+_, _-_, _%_, _<_}
 use native.Mathlib.Nat.{add-comm, add-assoc, add-zero, mod-lt, mod-eq-of-lt, mod-add-mod, add-mod-mod, mod-self}
 use native.Mathlib.Omega.{arith}
 use Rattle.group.specs.Group.{CommutativeGroup}
-use Rattle.group.specs.Modular.{modular, p, field}
+use Rattle.group.specs.Modular.{modular, modulus, field}
 
 module _ (m : ℕ) (pos : 0 < m) where
   mod-inverse : (x : ℕ) → (x + (m - x % m) % m) % m ≡ 0
@@ -23,5 +23,5 @@ module _ (m : ℕ) (pos : 0 < m) where
     in-zero = pos;
   }
 
-pub field-laws : CommutativeGroup ℕ field (λ x. x < p)
-field-laws = modular-laws p (omega arith)
+pub field-laws : CommutativeGroup ℕ field (λ x. x < modulus)
+field-laws = modular-laws modulus (omega arith)

@@ -10,6 +10,10 @@ modular m = record { add = λ x y. (x + y) % m; neg = λ x. (m - x % m) % m; zer
 abbrev pub p : ℕ
 p = 18446744069414584321
 
+-- what shares and totals are added and negated modulo: p
+abbrev pub modulus : ℕ
+modulus = p
+
 -- the group of shares and totals
 abbrev pub field : Group ℕ
-field = modular p
+field = modular modulus

@@ -15,7 +15,7 @@ use Rattle.point.specs.Share.{bitOf}
 use Rattle.query.specs.Query.{packs}
 use Rattle.tree.specs.Search.{searchList}
 use Rattle.tree.specs.Cut.{honestRecord, honestList, honestFits}
-use Rattle.idpf.specs.Reports.{serverSum}
+use Rattle.idpf.specs.Reports.{allCount, serverSum}
 use Rattle.search.specs.Search.{Lent, reports, total, recordBytes, listBytes, queriesFit}
 use Rattle.search.proofs.Outcome.{Sound, accepted-clear}
 use Rattle.search.proofs.Rule.{total-sum, kept-held, record-held, list-held, fits-held}
@@ -33,19 +33,20 @@ reports-number s xs honest = omega (arith, honest .seeds0 .size)
 module _ (s : Lent) (xs : List Bits) (honest : Honest s xs) (e : Expander) (named : choiceOf (s .expander) ≡ Known e)
     (from : 1 ≤ s .n) (to : s .n ≤ 256) (few : length xs ≤ 65535) where
   -- Each server's sum over what it is lent is that of the reports.
-  sum0 : (q : Bits) → serverSum e (s .n) false (s .seeds0) (s .shares0) (bitOf q) (length q) ≡ sumAt e (s .n) (reportsOf s xs) false q
+  sum0 : (q : Bits) → serverSum e (s .n) false (s .seeds0) (s .shares0) allCount (bitOf q) (length q) ≡ sumAt e (s .n) (reportsOf s xs) false q
   sum0 q =
-      ap₂ (λ (seeds shares : List ℕ). serverSum e (s .n) false seeds shares (bitOf q) (length q))
+      ap₂ (λ (seeds shares : List ℕ). serverSum e (s .n) false seeds shares allCount (bitOf q) (length q))
       (reports-seeds0 s xs honest) (reports-shares0 s xs honest e named from to)
 
-  sum1 : (q : Bits) → serverSum e (s .n) true (s .seeds1) (s .shares1) (bitOf q) (length q) ≡ sumAt e (s .n) (reportsOf s xs) true q
+  sum1 : (q : Bits) → serverSum e (s .n) true (s .seeds1) (s .shares1) allCount (bitOf q) (length q) ≡ sumAt e (s .n) (reportsOf s xs) true q
   sum1 q =
-      ap₂ (λ (seeds shares : List ℕ). serverSum e (s .n) true seeds shares (bitOf q) (length q))
+      ap₂ (λ (seeds shares : List ℕ). serverSum e (s .n) true seeds shares allCount (bitOf q) (length q))
       (reports-seeds1 s xs honest) (reports-shares1 s xs honest e named from to)
 
   -- At a prefix of 1 to n bits they add to the number of strings that have it.
   pub sums-add : (q : Bits) → 0 < length q → length q ≤ s .n
-      → (serverSum e (s .n) false (s .seeds0) (s .shares0) (bitOf q) (length q) + serverSum e (s .n) true (s .seeds1) (s .shares1) (bitOf q) (length q)) % p ≡ count xs q
+      → (serverSum e (s .n) false (s .seeds0) (s .shares0) allCount (bitOf q) (length q)
+      + serverSum e (s .n) true (s .seeds1) (s .shares1) allCount (bitOf q) (length q)) % p ≡ count xs q
   sums-add q some fits =
       ap₂ (λ (x y : ℕ). (x + y) % p) (sum0 q) (sum1 q)
       ∙ sums-count e (s .n) from (reportsOf s xs) (reports-honest s xs honest) (omega (arith, few, reports-length s xs)) q some fits

@@ -8,22 +8,22 @@ use mathlib.Core.Option.{none, some}
 use lib.ListN.{length, drop, replicate}
 use Rattle.bits.specs.Strings.{Bits}
 use Rattle.bits.specs.Packing.{packedLength}
-use Rattle.numbers.specs.Places.{overlay}
-use Rattle.numbers.proofs.Places.{overlay-nil}
-use Rattle.calls.specs.Causes.{Outcome}
-use Rattle.calls.specs.Clauses.{Due}
+use Rattle.places.specs.Places.{overlay}
+use Rattle.places.proofs.Places.{overlay-nil}
+use Rattle.calls.specs.Causes.{Due}
+use Rattle.calls.specs.Outcome.{Outcome}
 use Rattle.calls.proofs.Judged.{due-unique, judged-refused}
 use Rattle.point.specs.PublicShare.{publicShareLength}
 use Rattle.query.specs.Query.{prefixLength, prefixCount}
-use Rattle.keymaker.specs.Key.{keyClauses, keyOutcome}
-use Rattle.idpf.specs.Share.{shareClauses, shareCauses, shareOutcome}
+use Rattle.keymaker.specs.Key.{keyCauses, keyOutcome}
+use Rattle.idpf.specs.Share.{shareCauses, shareOutcome}
 use Rattle.keymaker.proofs.KeyCauses.{nothing-written}
 use Rattle.keymaker.proofs.KeyTheorems.{key-due}
 use Rattle.idpf.proofs.ShareDue.{share-due}
 use Rattle.combine.specs.Answer.{next, list, ended, kind}
-use Rattle.combine.specs.Combine.{combineAnswer, combineBytes, combineClauses, combineCauses, combineOutcome, combineKind}
+use Rattle.combine.specs.Combine.{combineAnswer, combineBytes, combineCauses, combineOutcome, combineKind}
 use Rattle.combine.proofs.CombineDue.{combine-due}
-use Rattle.search.specs.Search.{Lent, recordBytes, listBytes, searchClauses, searchNumber, recordLength, listLength, recordAfter, listAfter}
+use Rattle.search.specs.Search.{Lent, recordBytes, listBytes, searchCauses, searchNumber, recordLength, listLength, recordAfter, listAfter}
 use Rattle.search.proofs.SearchDue.{search-due}
 use Rattle.search.proofs.Areas as areas
 use Rattle.honest.specs.Honest.{AreBytes}
@@ -40,11 +40,11 @@ module _ (n e : ℕ) (string seed0 seed1 area : List ℕ) where
   key = keyOutcome n e string seed0 seed1 (length area)
 
   -- Its number is due, and no other is.
-  pub key-number : Due (keyClauses n e string seed0 seed1 (length area)) (key .number)
-      × ((k : ℕ) → Due (keyClauses n e string seed0 seed1 (length area)) k → k ≡ key .number)
+  pub key-number : Due (keyCauses n e string seed0 seed1 (length area)) (key .number)
+      × ((k : ℕ) → Due (keyCauses n e string seed0 seed1 (length area)) k → k ≡ key .number)
   key-number =
       let d = key-due n e string seed0 seed1 (length area) in
-      (d, λ k h. due-unique (keyClauses n e string seed0 seed1 (length area)) h d)
+      (d, λ k h. due-unique (keyCauses n e string seed0 seed1 (length area)) h d)
 
   -- A refusal writes nothing, so that its length is 0, and leaves the space as it was.
   pub key-refused : key .number ≢ 0 → (key .written ≡ []) × (overlay (key .written) area ≡ area)
@@ -67,11 +67,11 @@ module _ (n e : ℕ) (b : Bool) (seeds shares query area : List ℕ) where
 
   -- Where the public shares and the query are bytes, its number is due, and no other is.
   pub share-number : AreBytes shares → AreBytes query
-      → Due (shareClauses n e seeds shares query (length area)) (answer .number)
-      × ((k : ℕ) → Due (shareClauses n e seeds shares query (length area)) k → k ≡ answer .number)
+      → Due (shareCauses n e seeds shares query (length area)) (answer .number)
+      × ((k : ℕ) → Due (shareCauses n e seeds shares query (length area)) k → k ≡ answer .number)
   share-number share-byte query-byte =
       let d = share-due n e b seeds shares query (length area) share-byte query-byte in
-      (d, λ k h. due-unique (shareClauses n e seeds shares query (length area)) h d)
+      (d, λ k h. due-unique (shareCauses n e seeds shares query (length area)) h d)
 
   -- A refusal writes nothing, so that its length is 0, and leaves the space as it was.
   pub share-refused : answer .number ≢ 0 → (answer .written ≡ []) × (overlay (answer .written) area ≡ area)
@@ -95,11 +95,11 @@ module _ (n t : ℕ) (query share0 share1 area : List ℕ) where
 
   -- Where the query is bytes, its number is due, and no other is.
   pub combine-number : AreBytes query
-      → Due (combineClauses n t query share0 share1 (length area)) (combined .number)
-      × ((k : ℕ) → Due (combineClauses n t query share0 share1 (length area)) k → k ≡ combined .number)
+      → Due (combineCauses n t query share0 share1 (length area)) (combined .number)
+      × ((k : ℕ) → Due (combineCauses n t query share0 share1 (length area)) k → k ≡ combined .number)
   combine-number query-byte =
       let d = combine-due n t query share0 share1 (length area) query-byte in
-      (d, λ k h. due-unique (combineClauses n t query share0 share1 (length area)) h d)
+      (d, λ k h. due-unique (combineCauses n t query share0 share1 (length area)) h d)
 
   -- A refusal writes nothing, so that its length is 0, leaves the space as it was and names none of the three kinds of answer.
   pub combine-refused : combined .number ≢ 0
@@ -135,8 +135,8 @@ module _ (n t : ℕ) (query share0 share1 area : List ℕ) where
 module _ (s : Lent) where
   -- Where the public shares are bytes, its number is due, and no other is.
   pub search-number : AreBytes (s .shares0) → AreBytes (s .shares1)
-      → Due (searchClauses s) (searchNumber s) × ((k : ℕ) → Due (searchClauses s) k → k ≡ searchNumber s)
-  search-number byte0 byte1 = let d = search-due s byte0 byte1 in (d, λ k h. due-unique (searchClauses s) h d)
+      → Due (searchCauses s) (searchNumber s) × ((k : ℕ) → Due (searchCauses s) k → k ≡ searchNumber s)
+  search-number byte0 byte1 = let d = search-due s byte0 byte1 in (d, λ k h. due-unique (searchCauses s) h d)
 
   -- A refusal returns the lengths 0 and leaves the list area as it was.
   pub search-refused : searchNumber s ≢ 0 → (recordLength s ≡ 0) × (listLength s ≡ 0) × (listAfter s ≡ s .listArea)

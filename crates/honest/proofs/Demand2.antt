@@ -7,16 +7,15 @@ use mathlib.Core.Option.{some}
 use Prim.Native.Nat.{ℕ, zero, suc, _+_, _*_, _/_, _%_, _≤_, _<_}
 use native.Mathlib.Omega.{arith}
 use lib.ListN.{length, getD, length-append}
-use lib.Dec.{leb}
-use Rattle.numbers.specs.Lists.{_∈_, All}
+use Rattle.places.specs.Lists.{_∈_, All}
 use Rattle.bits.specs.Strings.{Bits, _▹_, isPrefix, count, Ascending}
-use Rattle.numbers.specs.Numbers.{Bytes}
+use Rattle.places.specs.Places.{Bytes}
 use Rattle.bits.specs.Packing.{pack}
-use Rattle.calls.specs.Causes.{Outcome, accepted}
+use Rattle.calls.specs.Outcome.{Outcome, accepted}
 use Rattle.expander.specs.Expander.{choiceOf, isExpander}
 use Rattle.expander.specs.declared.Expander.{Expander}
 use Rattle.expander.specs.declared.Choice.the-variants.{Known}
-use Rattle.group.specs.Modular.{p}
+use Rattle.group.specs.Modular.{modulus, field}
 use Rattle.point.specs.Correction.{Correction}
 use Rattle.point.specs.Keys.{keyCorrection}
 use Rattle.point.specs.Share.{bitOf, shareAt}
@@ -28,25 +27,25 @@ use Rattle.query.specs.Query.{OfLength, packs, query as queryOf, IsQuery, prefi
 use Rattle.tree.specs.Search.{totals, searchList, Ended}
 use Rattle.tree.specs.Cut.{Heavy, honestList, times}
 use Rattle.tree.specs.Space.{recordSpace, listSpace}
-use Rattle.numbers.proofs.Lists.{all-map}
+use Rattle.places.proofs.Lists.{all-map}
 use Rattle.query.proofs.Queries.{query-passes}
 use Rattle.tree.proofs.Kept as kept
 use Rattle.tree.proofs.Totals as strings
 use Rattle.tree.proofs.Demands.{honest-exact, honest-ascending, honest-once}
 use Rattle.keymaker.specs.Key.{keyOutcome}
-use Rattle.idpf.specs.Reports.{seedAt, sumBelow, lentShare, serverSum}
+use Rattle.idpf.specs.Reports.{seedAt, allCount, sumWhere, lentShare, serverSum}
 use Rattle.idpf.specs.Share.{shareOutcome}
 use Rattle.combine.specs.Answer.{nextQuery}
 use Rattle.combine.specs.Combine.{keptPrefixes, combineOutcome, combineKind}
 use Rattle.combine.proofs.NextPasses as passing
-use Rattle.search.specs.Search.{Lent, total, listBytes, listLength}
+use Rattle.search.specs.Search.{Lent, countedNumber, thresholdOf, reachesOf, total, listBytes, listLength}
 use Rattle.search.proofs.Outcome.{accepted-clear, named-expander}
-use Rattle.honest.specs.Honest.{AreBytes, Accepted, listRead, Honest}
+use Rattle.honest.specs.Honest.{AreBytes, Accepted, listRead, Honest, countedStrings}
 use Rattle.honest.proofs.Keys.{honest-report, key-accepted}
 use Rattle.honest.proofs.Shares.{query-prefixes, share-lent}
 use Rattle.honest.proofs.Reports.{reportsOf, reports-length, reports-honest, reports-seeds0, reports-seeds1, reports-shares0, reports-shares1, share-of0, share-of1, sum-of0, sum-of1}
 use Rattle.honest.proofs.Reading.{list-read, list-whole}
-use Rattle.honest.proofs.Counted.{sums-add, accepted-total, accepted-kept, accepted-list}
+use Rattle.honest.proofs.Counted.{reports-number, sums-add, accepted-total, accepted-kept, accepted-list}
 use Rattle.honest.proofs.Accepting.{space-accepted}
 use Rattle.honest.proofs.Making.{made-honest}
 
@@ -64,7 +63,7 @@ key-made e expander named x from to seed0 seed1 sized0 sized1 room fits =
 -- With those correction words both servers' shares at a prefix add to 1 if the string has it, and to 0 if not.
 pub key-correct : (e : Expander) (x : Bits) (seed0 seed1 : List ℕ) → Bytes 16 seed0 → Bytes 16 seed1 → (q : Bits) → 0 < length q → length q ≤ length x
     → let words = keyCorrection (scheme e) 1 (bitOf x) seed0 seed1 in
-    (shareAt (scheme e) words seed0 false q + shareAt (scheme e) words seed1 true q) % p ≡ cond (isPrefix q x) 1 0
+    (shareAt (scheme e) words seed0 false q + shareAt (scheme e) words seed1 true q) % modulus ≡ cond (isPrefix q x) 1 0
 key-correct e x seed0 seed1 sized0 sized1 q least fits = scheme-correct e 1 (omega arith) seed0 seed1 sized0 sized1 x q least fits
 
 -- For honest reports and an expander's number (1 names Aes and 2 Classroom) each server's share of a report is the point function's, with the
@@ -76,8 +75,8 @@ pub shares-made : (s : Lent) (xs : List Bits) → Honest s xs → 1 ≤ s .n →
     let share1 : ℕ → ℕ = λ i. shareAt (scheme e) (words i) (seedAt (s .seeds1) i) true q in
     ((i : ℕ) → i < length xs → lentShare e (s .n) false (s .seeds0) (s .shares0) (bitOf q) (length q) i ≡ share0 i)
     × ((i : ℕ) → i < length xs → lentShare e (s .n) true (s .seeds1) (s .shares1) (bitOf q) (length q) i ≡ share1 i)
-    × (serverSum e (s .n) false (s .seeds0) (s .shares0) (bitOf q) (length q) ≡ sumBelow (length xs) share0)
-    × (serverSum e (s .n) true (s .seeds1) (s .shares1) (bitOf q) (length q) ≡ sumBelow (length xs) share1)
+    × (serverSum e (s .n) false (s .seeds0) (s .shares0) allCount (bitOf q) (length q) ≡ sumWhere field allCount (length xs) share0)
+    × (serverSum e (s .n) true (s .seeds1) (s .shares1) allCount (bitOf q) (length q) ≡ sumWhere field allCount (length xs) share1)
 unfolding reportShare reportCorrection
 shares-made s xs honest from to e named q fits = (
   λ i h. share-of0 s xs honest e named from to i h q fits,
@@ -91,11 +90,11 @@ shares-made s xs honest from to e named q fits = (
 pub shares-add : (s : Lent) (xs : List Bits) → Honest s xs → 1 ≤ s .n → s .n ≤ 256 → length xs ≤ 65535
     → (e : Expander) → choiceOf (s .expander) ≡ Known e → (query : List ℕ) → IsQuery (s .n) query
     → (room0 room1 : ℕ) → 8 * prefixCount query ≤ room0 → 8 * prefixCount query ≤ room1
-    → let sum0 : Bits → ℕ = λ q. serverSum e (s .n) false (s .seeds0) (s .shares0) (bitOf q) (length q) in
-    let sum1 : Bits → ℕ = λ q. serverSum e (s .n) true (s .seeds1) (s .shares1) (bitOf q) (length q) in
+    → let sum0 : Bits → ℕ = λ q. serverSum e (s .n) false (s .seeds0) (s .shares0) allCount (bitOf q) (length q) in
+    let sum1 : Bits → ℕ = λ q. serverSum e (s .n) true (s .seeds1) (s .shares1) allCount (bitOf q) (length q) in
     (shareOutcome (s .n) (s .expander) false (s .seeds0) (s .shares0) query room0 ≡ accepted (totals sum0 (prefixesOf query)))
     × (shareOutcome (s .n) (s .expander) true (s .seeds1) (s .shares1) query room1 ≡ accepted (totals sum1 (prefixesOf query)))
-    × All (λ q. (sum0 q + sum1 q) % p ≡ count xs q) (prefixesOf query)
+    × All (λ q. (sum0 q + sum1 q) % modulus ≡ count (countedStrings s xs) q) (prefixesOf query)
 shares-add s xs honest from to few e named query asks room0 room1 fits0 fits1 =
     let rs = reportsOf s xs in
     let these = reports-honest s xs honest in
@@ -140,9 +139,10 @@ honest-made n t expander xs seeds0 seeds1 recordArea listArea from to known bits
     made-honest _ xs bits sized0 sized1 (named-expander expander known .0) (named-expander expander known .1) from to refl refl
 
 -- An honest search with n, t, the expander and the number of reports in their bounds, and with its space, is accepted.
-pub honest-accepted : (s : Lent) (xs : List Bits) → Honest s xs → 1 ≤ s .n → s .n ≤ 256 → 1 ≤ s .t → s .t ≤ 65535
+pub honest-accepted : (s : Lent) (xs : List Bits) → Honest s xs → 1 ≤ s .n → s .n ≤ 256 → 1 ≤ thresholdOf s → thresholdOf s ≤ 65535
     → isExpander (s .expander) ≡ true → length xs ≤ 65535
-    → recordSpace (s .n) (s .t) (length xs) ≤ length (s .recordArea) → listSpace (s .n) (s .t) (length xs) ≤ length (s .listArea) → Accepted s
+    → let C = length (countedStrings s xs) in
+    recordSpace (s .n) (thresholdOf s) C ≤ length (s .recordArea) → listSpace (s .n) (thresholdOf s) C ≤ length (s .listArea) → Accepted s
 honest-accepted s xs honest from to least most known few room list = space-accepted s xs honest from to least most known few room list
 
 -- ---- the list
@@ -151,7 +151,7 @@ honest-accepted s xs honest from to least most known few room list = space-accep
 -- ascending and once each.
 pub honest-list : (s : Lent) (xs : List Bits) → Honest s xs → Accepted s
     → (ss : List Bits) × (listRead s ≡ packs ss) × Ascending ss × ((x : Bits) → times x ss ≤ 1)
-    × ((x : Bits) → (x ∈ ss) ↔ ((length x ≡ s .n) × Heavy (s .t) xs x))
+    × ((x : Bits) → (x ∈ ss) ↔ ((length x ≡ s .n) × Heavy (thresholdOf s) (countedStrings s xs) x))
 honest-list s xs honest ok = (
   honestList (s .n) (s .t) xs,
   accepted-list s xs honest ok,
@@ -165,16 +165,16 @@ pub list-inside : (s : Lent) → Accepted s → (length (listRead s) ≡ listLen
 list-inside s ok = list-whole s ok
 
 -- Whatever reports were lent, an accepted search that ends has an empty list.
-pub ended-empty : (s : Lent) → Accepted s → Ended (leb (s .t)) (total s) (s .n) → (listRead s ≡ []) × (listLength s ≡ 0)
+pub ended-empty : (s : Lent) → Accepted s → Ended (reachesOf s) (total s) (s .n) → (listRead s ≡ []) × (listLength s ≡ 0)
 unfolding listBytes packs
 ended-empty s ok ended =
-    let none : listRead s ≡ [] = list-read s ok ∙ ap packs (kept.ended-empty (leb (s .t)) (total s) (s .n) ended) in
+    let none : listRead s ≡ [] = list-read s ok ∙ ap packs (kept.ended-empty (reachesOf s) (total s) (s .n) ended) in
     (none, sym (list-whole s ok .0) ∙ ap length none)
 
 -- ---- the totals
 
 -- In an accepted search of honest reports the total of a prefix of 1 to n bits is the number of strings that have it.
-pub honest-total : (s : Lent) (xs : List Bits) → Honest s xs → Accepted s → (q : Bits) → 0 < length q → length q ≤ s .n → total s q ≡ count xs q
+pub honest-total : (s : Lent) (xs : List Bits) → Honest s xs → Accepted s → (q : Bits) → 0 < length q → length q ≤ s .n → total s q ≡ count (countedStrings s xs) q
 honest-total s xs honest ok q least fits = accepted-total s xs honest ok q least fits
 
 -- The totals of two children add to their parent's.
@@ -188,16 +188,16 @@ children-add s xs honest ok q least short =
     ∙ sym (strings.count-children (s .n) xs (honest .n-bits) q short)
     ∙ sym (accepted-total s xs honest ok q least (omega arith))
 
--- The first two totals add to the number of reports.
-pub first-add : (s : Lent) (xs : List Bits) → Honest s xs → Accepted s → total s (false ∷ []) + total s (true ∷ []) ≡ length xs
+-- The first two totals add to the number of counted reports.
+pub first-add : (s : Lent) (xs : List Bits) → Honest s xs → Accepted s → total s (false ∷ []) + total s (true ∷ []) ≡ countedNumber s
 first-add s xs honest ok =
     let from = accepted-clear s ok .sound .some-bits in
     ap₂ _+_ (accepted-total s xs honest ok (false ∷ []) (omega arith) from) (accepted-total s xs honest ok (true ∷ []) (omega arith) from)
-    ∙ strings.first-totals (s .n) xs (honest .n-bits) from
+    ∙ strings.first-totals (s .n) xs (honest .n-bits) from ∙ sym (reports-number s xs honest)
 
 -- A query after the first, for prefixes of k + 1 bits, has at most twice as many as C ÷ t, rounded down.
 pub query-most : (s : Lent) (xs : List Bits) → Honest s xs → Accepted s → (k : ℕ) → 1 ≤ k → k < s .n
-    → length (children (searchList (leb (s .t)) (total s) k)) ≤ 2 * (length xs / s .t)
+    → length (children (searchList (reachesOf s) (total s) k)) ≤ 2 * (length (countedStrings s xs) / thresholdOf s)
 query-most s xs honest ok zero least l = absurd (omega arith)
 query-most s xs honest ok (suc k) least l =
     rw (accepted-kept s xs honest ok (suc k) (omega arith))

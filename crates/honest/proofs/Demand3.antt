@@ -13,36 +13,36 @@ use Rattle.tree.specs.Search.{start, totals, level, heading, searchRecord, sear
 use Rattle.tree.specs.Cut.{honestRecord, cuts, Rearranged}
 use Rattle.tree.proofs.Demands.{records-tell-cuts, records-tell-lists}
 use Rattle.tree.proofs.Steps as steps
-use Rattle.search.specs.Search.{Lent, reports, total, recordBytes, listBytes, recordLength}
+use Rattle.search.specs.Search.{Lent, countedNumber, thresholdOf, reachesOf, total, recordBytes, listBytes, recordLength}
 use Rattle.search.proofs.Outcome.{accepted-clear}
-use Rattle.honest.specs.Honest.{Accepted, recordRead, listRead, Honest}
+use Rattle.honest.specs.Honest.{Accepted, recordRead, listRead, Honest, countedStrings}
 use Rattle.honest.proofs.Reading.{record-read, record-whole, list-read, levels-joined}
 use Rattle.honest.proofs.SoundShares.{total-below}
 use Rattle.honest.proofs.Counted.{few-strings, accepted-record}
 
 -- For any two accepted searches of honest reports with equal string length and threshold, whatever the seeds, the expander and the number of reports
 -- of each, the records are equal in length and in every byte exactly when the two lists of cut strings are rearrangements of each other.
-pub demand-3 : (s u : Lent) (xs ys : List Bits) → Honest s xs → Honest u ys → s .n ≡ u .n → s .t ≡ u .t → Accepted s → Accepted u
-    → (recordRead s ≡ recordRead u) ↔ Rearranged (cuts (s .t) xs) (cuts (u .t) ys)
-demand-3 s u xs ys honest honest′ bits threshold ok ok′ =
+pub records-alike : (s u : Lent) (xs ys : List Bits) → Honest s xs → Honest u ys → s .n ≡ u .n → thresholdOf s ≡ thresholdOf u → Accepted s → Accepted u
+    → (recordRead s ≡ recordRead u) ↔ Rearranged (cuts (thresholdOf s) (countedStrings s xs)) (cuts (thresholdOf u) (countedStrings u ys))
+records-alike s u xs ys honest honest′ bits threshold ok ok′ =
     let n-bits : OfLength (s .n) ys = rw (← bits) at (honest′ .n-bits) in
-    let records = records-tell-cuts (s .n) (s .t) xs ys (accepted-clear s ok .sound .some-bits) (honest .n-bits) n-bits
+    let records = records-tell-cuts (s .n) (thresholdOf s) xs ys (accepted-clear s ok .sound .some-bits) (honest .n-bits) n-bits
     (few-strings s xs honest ok) (few-strings u ys honest′ ok′) in
     let left = accepted-record s xs honest ok in
-    let right : recordRead u ≡ honestRecord (s .n) (s .t) ys =
+    let right : recordRead u ≡ honestRecord (s .n) (thresholdOf s) ys =
     accepted-record u ys honest′ ok′ ∙ ap₂ (λ (n t : ℕ). honestRecord n t ys) (sym bits) (sym threshold) in
-    subst (λ (t : ℕ). (recordRead s ≡ recordRead u) ↔ Rearranged (cuts (s .t) xs) (cuts t ys)) threshold
+    subst (λ (t : ℕ). (recordRead s ≡ recordRead u) ↔ Rearranged (cuts (thresholdOf s) xs) (cuts t ys)) threshold
     (λ same. records .0 (sym left ∙ same ∙ right), λ cut. left ∙ records .1 cut ∙ sym right)
 
 -- Whatever reports were lent, two accepted searches with equal string length, threshold and record have equal lists.
-pub records-lists : (s u : Lent) → s .n ≡ u .n → s .t ≡ u .t → Accepted s → Accepted u → recordRead s ≡ recordRead u → listRead s ≡ listRead u
+pub records-lists : (s u : Lent) → s .n ≡ u .n → thresholdOf s ≡ thresholdOf u → Accepted s → Accepted u → recordRead s ≡ recordRead u → listRead s ≡ listRead u
 unfolding recordBytes listBytes
 records-lists s u bits threshold ok ok′ same =
-    let records : searchRecord (leb (s .t)) (total s) (reports s) (s .n) ≡ searchRecord (leb (s .t)) (total u) (reports u) (s .n) =
+    let records : searchRecord (reachesOf s) (total s) (countedNumber s) (s .n) ≡ searchRecord (reachesOf s) (total u) (countedNumber u) (s .n) =
     sym (record-read s ok) ∙ same ∙ record-read u ok′
-    ∙ ap₂ (λ (n t : ℕ). searchRecord (leb t) (total u) (reports u) n) (sym bits) (sym threshold) in
-    let lists : searchList (leb (s .t)) (total s) (s .n) ≡ searchList (leb (u .t)) (total u) (u .n) =
-    records-tell-lists (leb (s .t)) (total s) (total u) (small s) (small u) (reports s) (reports u) (s .n) records
+    ∙ ap₂ (λ (n t : ℕ). searchRecord (leb t) (total u) (countedNumber u) n) (sym bits) (sym threshold) in
+    let lists : searchList (reachesOf s) (total s) (s .n) ≡ searchList (reachesOf u) (total u) (u .n) =
+    records-tell-lists (reachesOf s) (total s) (total u) (small s) (small u) (countedNumber s) (countedNumber u) (s .n) records
     ∙ ap₂ (λ (n t : ℕ). searchList (leb t) (total u) n) bits threshold in
     list-read s ok ∙ ap packs lists ∙ sym (list-read u ok′)
   where
@@ -56,14 +56,14 @@ record-inside s ok = record-whole s ok
 -- Whatever reports were lent, the record of an accepted search begins with the first query, for `0` and `1`, and its two totals; nothing stands
 -- before them today, as `heading` is empty.
 pub record-begins : (s : Lent) → Accepted s
-    → (rest : List ℕ) × (recordRead s ≡ heading (reports s) ++ (query 0 (children start) ++ (totals (total s) (children start) ++ rest)))
+    → (rest : List ℕ) × (recordRead s ≡ heading (countedNumber s) ++ (query 0 (children start) ++ (totals (total s) (children start) ++ rest)))
 unfolding recordBytes
 record-begins s ok =
-    let begins = steps.record-begins (leb (s .t)) (total s) (reports s) (s .n) (accepted-clear s ok .sound .some-bits) in
-    (_, record-read s ok ∙ begins ∙ ap (λ (r : List ℕ). heading (reports s) ++ r) (append-assoc (query 0 (children start)) (totals (total s) (children start)) _))
+    let begins = steps.record-begins (reachesOf s) (total s) (countedNumber s) (s .n) (accepted-clear s ok .sound .some-bits) in
+    (_, record-read s ok ∙ begins ∙ ap (λ (r : List ℕ). heading (countedNumber s) ++ r) (append-assoc (query 0 (children start)) (totals (total s) (children start)) _))
 
 -- Whatever reports were lent, the record of an accepted search is each query followed by its totals, level by level.
 pub record-levels : (s : Lent) → Accepted s
-    → recordRead s ≡ heading (reports s) ++ joined (s .n) (λ k. level (total s) k (children (searchList (leb (s .t)) (total s) k)))
+    → recordRead s ≡ heading (countedNumber s) ++ joined (s .n) (λ k. level (total s) k (children (searchList (reachesOf s) (total s) k)))
 unfolding recordBytes searchRecord
-record-levels s ok = record-read s ok ∙ ap (λ (r : List ℕ). heading (reports s) ++ r) (levels-joined (leb (s .t)) (total s) (s .n))
+record-levels s ok = record-read s ok ∙ ap (λ (r : List ℕ). heading (countedNumber s) ++ r) (levels-joined (reachesOf s) (total s) (s .n))

@@ -7,10 +7,10 @@ use native.Mathlib.Omega.{arith}
 use borrow.Author.Tests.{le-ltb, eq-eqb}
 use lib.ListN.{length}
 use Rattle.bits.specs.Strings.{Bits}
-use Rattle.numbers.specs.Numbers.{Bytes}
+use Rattle.places.specs.Places.{Bytes}
 use Rattle.bits.specs.Packing.{packedLength, pack, unpack, spareZero}
 use Rattle.bits.proofs.Packed.{pack-length, unpack-pack, pack-spareZero}
-use Rattle.calls.specs.Causes.{accepted}
+use Rattle.calls.specs.Outcome.{accepted}
 use Rattle.calls.proofs.Decisions.{neither-test, in-bounds}
 use Rattle.calls.proofs.Judged.{judged-accepted, _&_}
 use Rattle.expander.specs.Expander.{choiceOf, under}

@@ -7,10 +7,10 @@ use Prim.Native.Nat.{ℕ, zero, suc, _≤_, _<_}
 use native.Mathlib.Omega.{arith}
 use borrow.Author.Tests.{eqb-false}
 use lib.ListN.{length}
-use lib.Dec.{eqb, leb, ltb, ltb→lt, lt→ltb}
+use lib.Dec.{eqb, ltb, ltb→lt, lt→ltb}
 use Rattle.bits.specs.Strings.{Bits, Ascending}
-use Rattle.calls.specs.Causes.{accepted}
-use Rattle.calls.specs.Clauses.{clause, Due}
+use Rattle.calls.specs.Causes.{Due}
+use Rattle.calls.specs.Outcome.{accepted}
 use Rattle.calls.proofs.Decisions.{either, either-test}
 use Rattle.calls.proofs.Judged.{number-due, judged-due, none, next as also}
 use Rattle.query.specs.Query.{OfLength, limit, IsQuery, children}
@@ -20,17 +20,17 @@ use Rattle.tree.proofs.Steps.{kept-last}
 use Rattle.combine.proofs.CombineDue.{passes as passes-limit, passes-test as passes-limit-test}
 use Rattle.combine.specs.Answer.{list, further, answer}
 use Rattle.combine.specs.Combine.{PassesLimit, passesLimit, combineCauses, combineOutcome}
-use Rattle.search.specs.Search.{Lent, reports, total, recordBytes, listBytes, queriesFit}
+use Rattle.search.specs.Search.{Lent, countedNumber, thresholdOf, reachesOf, total, recordBytes, listBytes, queriesFit}
 use Rattle.search.proofs.Outcome.{Sound, accepted-clear, not-before-11}
 use Rattle.search.proofs.Rule.{queries-within}
 use Rattle.honest.specs.Honest.{Accepted, recordRead, listRead}
-use Rattle.honest.specs.Loop.{Passes, firstQuery, Played, shareOf, shareFor, totalsFor, answerFor, spaceFor, combineIn, played, keptAt, queryAt}
+use Rattle.honest.specs.Loop.{Passes, firstQuery, Played, shareOf, shareFor, totalsFor, answerFor, spaceFor, combineIn, spaceIn, played, keptAt, queryAt}
 use Rattle.honest.proofs.Reading.{record-read, list-read}
 use Rattle.honest.proofs.Round as rounds
 use Rattle.honest.proofs.Playing.{ruled, play}
 
 -- a number of 0 or 11 tells that the search is sound
-passing : (s : Lent) → Passes s → Sound s
+pub passing : (s : Lent) → Passes s → Sound s
 passing s (inl h) = accepted-clear s h .sound
 passing s (inr h) = not-before-11 s h
 
@@ -48,10 +48,10 @@ module _ (s : Lent) (passes : Passes s) where
 
   module _ (k : ℕ) (short : k < s .n) (some : 1 ≤ length (keptAt s k)) (few : length (children (keptAt s k)) ≤ limit) where
     sized : OfLength k (keptAt s k)
-    sized = list-length (leb (s .t)) (total s) k
+    sized = list-length (reachesOf s) (total s) k
 
     sorted : Ascending (keptAt s k)
-    sorted = list-ascending (leb (s .t)) (total s) k
+    sorted = list-ascending (reachesOf s) (total s) k
 
     -- What is asked passes 9.
     pub level-query : IsQuery (s .n) (queryAt s k)
@@ -72,21 +72,21 @@ module _ (s : Lent) (passes : Passes s) where
     unfolding searchList
     level-answer =
         rounds.round-answer s (passing s passes) k short (keptAt s k) some few sized sorted
-        ∙ ap (answer (s .n) (suc k)) (sym (kept-last (isKept (leb (s .t)) (total s)) k start))
+        ∙ ap (answer (s .n) (suc k)) (sym (kept-last (isKept (reachesOf s) (total s)) k start))
 
     -- Of combining's causes only 11 is left: its number is 11 where its answer does not fit the room or a next query passes the limit, and else 0.
     pub level-number : (room : ℕ)
-        → Due (clause 11 ((room < spaceFor s (queryAt s k)) ⊎ PassesLimit (answerFor s (queryAt s k))) ∷ []) (combineIn s room (queryAt s k) .number)
+        → Due (spaceIn s room (queryAt s k)) (combineIn s room (queryAt s k) .number)
     unfolding combineOutcome
     level-number room =
         let q = queryAt s k in
         let a = ltb room (spaceFor s q) in
         let b = passesLimit (answerFor s q) in
-        let d : Due (clause 11 ((room < spaceFor s q) ⊎ PassesLimit (answerFor s q)) ∷ []) (cond (a || b) 11 0) =
+        let d : Due (spaceIn s room q) (cond (a || b) 11 0) =
         number-due
         (also {b = a || b} (either a b (ltb→lt room _) (passes-limit (answerFor s q))) (either-test a b (lt→ltb room _) (passes-limit-test (answerFor s q))) none) in
         rw (
-          judged-due (combineCauses (s .n) (s .t) q (shareFor s false q) (shareFor s true q) room) _,
+          judged-due (combineCauses (s .n) (thresholdOf s) q (shareFor s false q) (shareFor s true q) room) _,
           rounds.round-number s (passing s passes) k short (keptAt s k) some few sized sorted room,
         ) d
 
@@ -113,7 +113,7 @@ module _ (s : Lent) (passes : Passes s) where
         refuted (inl h) = omega (arith, h)
         refuted (inr h) = within-limit h
 
-        go : {m : ℕ} → Due (clause 11 ((spaceFor s (queryAt s k) < spaceFor s (queryAt s k)) ⊎ PassesLimit (answerFor s (queryAt s k))) ∷ []) m → m ≡ 0
+        go : {m : ℕ} → Due (spaceIn s (spaceFor s (queryAt s k)) (queryAt s k)) m → m ≡ 0
         go (inl h) = absurd (refuted (h .0))
         go (inr h) = h .1
 
@@ -122,21 +122,21 @@ module _ (s : Lent) (passes : Passes s) where
     unfolding queriesFit searchFits
     all-played = go (s .n) refl within
       where
-        go : (m : ℕ) → m ≡ s .n → fitsFrom (isKept (leb (s .t)) (total s)) m start ≡ true → played s m firstQuery ≡ ruled s (passing s passes) m 0 start
+        go : (m : ℕ) → m ≡ s .n → fitsFrom (isKept (reachesOf s) (total s)) m start ≡ true → played s m firstQuery ≡ ruled s (passing s passes) m 0 start
         go zero e h = absurd (omega (arith, e, passing s passes .some-bits))
         go (suc m) e h = play s (passing s passes) m 0 start (omega (arith, e)) (omega arith) (refl, tt) (tt, tt) h
 
     -- The record and the list of the search are what the calls leave in at most n rounds from the first query on.
-    pub search-played : (recordBytes s ≡ heading (reports s) ++ played s (s .n) firstQuery .recorded) × (listBytes s ≡ played s (s .n) firstQuery .listed)
+    pub search-played : (recordBytes s ≡ heading (countedNumber s) ++ played s (s .n) firstQuery .recorded) × (listBytes s ≡ played s (s .n) firstQuery .listed)
     unfolding recordBytes listBytes searchRecord searchList
     search-played = (
-      ap (λ (o : Played). heading (reports s) ++ o .recorded) (sym all-played),
+      ap (λ (o : Played). heading (countedNumber s) ++ o .recorded) (sym all-played),
       ap (λ (o : Played). o .listed) (sym all-played),
     )
 
 -- So the record and the list that an accepted search leaves are those that the calls leave.
 pub accepted-played : (s : Lent) → Accepted s
-    → (recordRead s ≡ heading (reports s) ++ played s (s .n) firstQuery .recorded) × (listRead s ≡ played s (s .n) firstQuery .listed)
+    → (recordRead s ≡ heading (countedNumber s) ++ played s (s .n) firstQuery .recorded) × (listRead s ≡ played s (s .n) firstQuery .listed)
 accepted-played s ok =
     let e = search-played s (inl ok) (accepted-clear s ok .queries-fit) in
     (record-read s ok ∙ e .0, list-read s ok ∙ e .1)

@@ -10,7 +10,7 @@ use Rattle.expander.specs.declared.Expander.{Expander}
 use Rattle.point.specs.Share.{bitOf}
 use Rattle.point.specs.Totals.{Report, Made, rootSeed, reportPublicShare}
 use Rattle.point.specs.Instance.{scheme}
-use Rattle.idpf.specs.Reports.{serverSum}
+use Rattle.idpf.specs.Reports.{allCount, serverSum}
 
 -- A report is honest in a search of n bits: its string has n bits, its root seeds 16 bytes each, and its weight is one.
 pub record HonestReport (n : ℕ) (r : Report ℕ) : Type 0 where
@@ -32,4 +32,4 @@ lentShares e n = oneByOne (reportPublicShare (scheme e) n)
 
 -- server b's sum over what it is lent, at the prefix q
 abbrev pub sumAt : Expander → ℕ → List (Report ℕ) → Bool → Bits → ℕ
-sumAt e n rs b q = serverSum e n b (lentSeeds b rs) (lentShares e n rs) (bitOf q) (length q)
+sumAt e n rs b q = serverSum e n b (lentSeeds b rs) (lentShares e n rs) allCount (bitOf q) (length q)

@@ -4,8 +4,8 @@ use mathlib.Core.List.{List, []}
 use Prim.Native.Nat.{ℕ, _*_, _≤_, _<_}
 use lib.ListN.{length, getD}
 use Rattle.bits.specs.Strings.{Bits}
-use Rattle.numbers.specs.Numbers.{Bytes}
-use Rattle.calls.specs.Causes.{Outcome, accepted}
+use Rattle.places.specs.Places.{Bytes}
+use Rattle.calls.specs.Outcome.{Outcome, accepted}
 use Rattle.expander.specs.Expander.{choiceOf}
 use Rattle.expander.specs.declared.Expander.{Expander}
 use Rattle.expander.specs.declared.Choice.the-variants.{Known}

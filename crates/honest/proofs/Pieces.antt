@@ -6,7 +6,7 @@ use native.Mathlib.Nat.{mul-zero, mul-suc}
 use native.Mathlib.Omega.{arith}
 use lib.ListN.{length, getD, take, drop, length-append, length-drop, take-append-drop}
 use lib.Seq.{take-at, drop-at, drop-drop}
-use Rattle.numbers.specs.Lists.{All}
+use Rattle.places.specs.Lists.{All}
 use Rattle.point.specs.Totals.{Report}
 use Rattle.honest.proofs.Made.{oneByOne}
 

@@ -8,15 +8,15 @@ use native.Mathlib.Omega.{arith}
 use borrow.Author.Tests.{le-ltb, eq-eqb, ne-eqb, leb-true}
 use lib.ListN.{length}
 use lib.Dec.{leb}
-use Rattle.numbers.specs.Lists.{select}
+use Rattle.places.specs.Lists.{select}
 use Rattle.bits.specs.Strings.{Bits, Ascending}
 use Rattle.numbers.specs.Numbers.{little}
-use Rattle.calls.specs.Causes.{Outcome}
+use Rattle.calls.specs.Outcome.{Outcome}
 use Rattle.calls.proofs.Decisions.{neither-test}
 use Rattle.query.specs.Query.{OfLength, packs, query, limit, children}
 use Rattle.tree.specs.Search.{totals, level, keptFrom, fitsFrom, recordFrom, isKept}
 use Rattle.query.proofs.Children.{children-length, children-ascending, select-ascending, kept-longer}
-use Rattle.numbers.proofs.Lists.{and-left, and-right}
+use Rattle.places.proofs.Lists.{and-left, and-right}
 use Rattle.tree.proofs.Steps.{kept-nothing, record-nothing}
 use Rattle.combine.specs.Answer.{Answer, next, list, ended, answer, answerBytes, kind}
 use Rattle.combine.specs.Combine.{passesLimit, combineKind, kindWith}

@@ -7,7 +7,7 @@ use native.Mathlib.Nat.{zero-add}
 use native.Mathlib.Omega.{arith}
 use lib.ListN.{length}
 use lib.Seq.{take-append-seam}
-use Rattle.numbers.specs.Places.{overlay}
+use Rattle.places.specs.Places.{overlay}
 use Rattle.bits.specs.Strings.{Bits}
 use Rattle.point.specs.PublicShare.{joined}
 use Rattle.tree.specs.Search.{start, level, keptFrom, recordFrom, isKept, searchList}

@@ -6,14 +6,15 @@ use Prim.Native.Nat.{ℕ, zero, suc, _*_, _/_, _≤_, _<_}
 use native.Mathlib.Nat.{mul-div-right, min-eq-left}
 use native.Mathlib.Omega.{arith}
 use lib.ListN.{length, getD}
-use Rattle.numbers.specs.Lists.{All}
+use Rattle.places.specs.Lists.{All}
 use Rattle.bits.specs.Strings.{Bits}
-use Rattle.numbers.specs.Numbers.{Bytes}
-use Rattle.numbers.proofs.Places.{window-inside, window-bytes}
-use Rattle.calls.specs.Causes.{Outcome, accepted}
+use Rattle.places.specs.Places.{Bytes}
+use Rattle.places.proofs.Places.{window-inside, window-bytes}
+use Rattle.calls.specs.Outcome.{Outcome, accepted}
 use Rattle.expander.specs.Expander.{choiceOf}
 use Rattle.expander.specs.declared.Expander.{Expander}
 use Rattle.expander.specs.declared.Choice.the-variants.{Known}
+use Rattle.group.specs.Modular.{field}
 use Rattle.point.specs.Share.{bitOf, share}
 use Rattle.point.specs.PublicShare.{publicShareLength, readCorrection}
 use Rattle.point.specs.Totals.{Report, rootSeed, strings, reportShare, reportPublicShare}
@@ -21,7 +22,7 @@ use Rattle.point.specs.Instance.{scheme}
 use Rattle.point.proofs.Honest.{report-read}
 use Rattle.point.proofs.Instance.{scheme-lawful, p-fits}
 use Rattle.query.specs.Query.{OfLength}
-use Rattle.idpf.specs.Reports.{reportCount, seedAt, publicShareAt, sumBelow, lentShare, serverSum}
+use Rattle.idpf.specs.Reports.{reportCount, seedAt, publicShareAt, allCount, sumWhere, lentShare, serverSum}
 use Rattle.idpf.proofs.LentPrefix.{sum-same}
 use Rattle.search.specs.Search.{Lent}
 use Rattle.honest.specs.Honest.{keyAt, Honest}
@@ -161,18 +162,18 @@ module _ (s : Lent) (xs : List Bits) where
 
       -- Each server's sum is the sum over all of them.
       module _ (q : Bits) (fits : length q ≤ s .n) where
-        pub sum-of0 : serverSum e (s .n) false (s .seeds0) (s .shares0) (bitOf q) (length q)
-            ≡ sumBelow (length xs) (λ i. reportShare (scheme e) false q (reportAt i))
+        pub sum-of0 : serverSum e (s .n) false (s .seeds0) (s .shares0) allCount (bitOf q) (length q)
+            ≡ sumWhere field allCount (length xs) (λ i. reportShare (scheme e) false q (reportAt i))
         unfolding serverSum
         sum-of0 =
-            ap (λ (m : ℕ). sumBelow m (lentShare e (s .n) false (s .seeds0) (s .shares0) (bitOf q) (length q)))
+            ap (λ (m : ℕ). sumWhere field allCount m (lentShare e (s .n) false (s .seeds0) (s .shares0) (bitOf q) (length q)))
             (lent-number (s .seeds0) (s .shares0) (honest .seeds0 .size) (honest .shares0))
-            ∙ sum-same (length xs) (λ i h. share-of0 i h q fits)
+            ∙ sum-same allCount (length xs) (λ i h. share-of0 i h q fits)
 
-        pub sum-of1 : serverSum e (s .n) true (s .seeds1) (s .shares1) (bitOf q) (length q)
-            ≡ sumBelow (length xs) (λ i. reportShare (scheme e) true q (reportAt i))
+        pub sum-of1 : serverSum e (s .n) true (s .seeds1) (s .shares1) allCount (bitOf q) (length q)
+            ≡ sumWhere field allCount (length xs) (λ i. reportShare (scheme e) true q (reportAt i))
         unfolding serverSum
         sum-of1 =
-            ap (λ (m : ℕ). sumBelow m (lentShare e (s .n) true (s .seeds1) (s .shares1) (bitOf q) (length q)))
+            ap (λ (m : ℕ). sumWhere field allCount m (lentShare e (s .n) true (s .seeds1) (s .shares1) (bitOf q) (length q)))
             (lent-number (s .seeds1) (s .shares1) (honest .seeds1 .size) (honest .shares1))
-            ∙ sum-same (length xs) (λ i h. share-of1 i h q fits)
+            ∙ sum-same allCount (length xs) (λ i h. share-of1 i h q fits)

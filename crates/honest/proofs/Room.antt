@@ -9,12 +9,12 @@ use mathlib.Core.Option.{none, some}
 use borrow.Author.Tests.{eqb-true, ltb-false, ne-eqb}
 use lib.ListN.{length, getD}
 use lib.Dec.{eqb, ltb}
-use Rattle.numbers.specs.Lists.{All}
 use Rattle.bits.specs.Strings.{Bits}
 use Rattle.bits.specs.Packing.{packedLength}
-use Rattle.calls.specs.Causes.{Outcome, numberDue, judged}
+use Rattle.calls.specs.Causes.{numberDue}
+use Rattle.calls.specs.Outcome.{Outcome, judged}
 use Rattle.calls.proofs.Decisions.{neither}
-use Rattle.calls.proofs.Judged.{judged-due, judged-accepted, judged-clear, _&_}
+use Rattle.calls.proofs.Judged.{Clear, judged-due, judged-accepted, judged-clear, _&_}
 use Rattle.expander.specs.Expander.{choiceOf}
 use Rattle.expander.specs.declared.Choice.{Choice}
 use Rattle.expander.specs.declared.Choice.the-variants.{Known, Unknown}
@@ -27,6 +27,7 @@ use Rattle.idpf.specs.Share.{shareOutcome}
 use Rattle.keymaker.proofs.KeyCauses.{ready}
 use Rattle.keymaker.proofs.KeyTheorems.{key-passes}
 use Rattle.idpf.proofs.ShareOutcome as outcome
+use Rattle.kept.specs.Kept.{reaches}
 use Rattle.combine.specs.Answer.{Answer, next, list, ended, further, answer, answerBytes, kind}
 use Rattle.combine.specs.Combine.{keptPrefixes, combineAnswer, combineBytes, passesLimit, combineCauses, combineOutcome, kindWith, combineKind}
 use Rattle.combine.proofs.Ready.{clear-ready, kept-long}
@@ -79,7 +80,7 @@ module _ (n t : ℕ) (query share0 share1 : List ℕ) (room : ℕ) where
     unfolding combineKind
     told-kind = ap (λ (m : ℕ). kindWith m (combineAnswer n t query share0 share1)) (due-number ∙ h)
 
-    no-cause : All (λ c. c .applies ≡ false) (combineCauses n t query share0 share1 room)
+    no-cause : Clear (combineCauses n t query share0 share1 room)
     unfolding combineOutcome
     no-cause =
         judged-clear (combineCauses n t query share0 share1 room) _
@@ -97,7 +98,7 @@ module _ (n t : ℕ) (query share0 share1 : List ℕ) (room : ℕ) where
       sized =
           let c = no-cause in
           answer-sized n (prefixLength query) (keptPrefixes t query share0 share1)
-          (kept-long n t query share0 share1 byte (clear-ready n t query share0 share1 (c .0 & c .1 .0 & c .1 .1 .0 & c .1 .1 .1 .0 & c .1 .1 .1 .1 .0 & tt)))
+          (kept-long n t query share0 share1 byte (clear-ready n t query share0 share1 (c .0 & c .1 .0 & c .1 .1 .0 & c .1 .1 .1 .0 & c .1 .1 .1 .1 .0 & tt)) (reaches t))
 
       -- what is written of the answer a
       written-length : (a : Answer) → combineAnswer n t query share0 share1 ≡ a → length (combineOutcome n t query share0 share1 room .written) ≡ length (answerBytes (prefixLength query) a)

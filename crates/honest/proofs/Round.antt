@@ -8,24 +8,27 @@ use native.Mathlib.Omega.{arith}
 use borrow.Author.Tests.{lt-ltb, eq-eqb}
 use lib.ListN.{length}
 use lib.Dec.{leb, ltb}
-use Rattle.numbers.specs.Lists.{select}
+use Rattle.places.specs.Lists.{select}
 use Rattle.bits.specs.Strings.{Bits, Ascending}
-use Rattle.calls.specs.Causes.{numberDue, accepted}
+use Rattle.calls.specs.Causes.{numberDue}
+use Rattle.calls.specs.Outcome.{accepted}
 use Rattle.calls.proofs.Decisions.{neither-test, in-bounds}
 use Rattle.calls.proofs.Judged.{judged-accepted, _&_}
 use Rattle.expander.specs.declared.Choice.{Choice}
 use Rattle.group.specs.Modular.{p, field}
 use Rattle.point.specs.Share.{bitOf}
+use Rattle.kept.specs.Kept.{kept}
+use Rattle.kept.proofs.Kept.{kept-select}
 use Rattle.query.specs.Query.{OfLength, query, limit, IsQuery, isQuery, prefixLength, prefixCount, prefixesOf, children}
 use Rattle.tree.specs.Search.{totals, isKept}
 use Rattle.tree.proofs.Asked.{next-query}
 use Rattle.query.proofs.Children.{children-longer}
 use Rattle.tree.proofs.Lengths.{totals-length}
 use Rattle.query.proofs.Queries.{query-passes, read-length, read-count, read-prefixes}
-use Rattle.idpf.specs.Reports.{serverSum}
-use Rattle.combine.specs.Answer.{numbers, added, kept, answer, answerBytes}
+use Rattle.idpf.specs.Reports.{allCount, serverSum}
+use Rattle.combine.specs.Answer.{numbers, added, answer, answerBytes}
 use Rattle.combine.specs.Combine.{wrongShares, allBelow, keptPrefixes, passesLimit, combineCauses, combineOutcome}
-use Rattle.combine.proofs.KeptSelect.{kept-select, numbers-totals, added-map}
+use Rattle.combine.proofs.ShareTotals.{numbers-totals, added-map}
 use Rattle.search.specs.Search.{Lent, total, totalUnder}
 use Rattle.search.proofs.Outcome.{Sound}
 use Rattle.honest.specs.Loop.{shareOf, shareFor, totalsFor, answerFor, spaceFor, combineIn}
@@ -40,10 +43,10 @@ below-all T small (q ∷ qs) = rw (lt-ltb (T q) p (small q)) (below-all T small 
 module _ (s : Lent) (sound : Sound s) where
   -- server b's sum at a prefix
   abbrev pub sum : Bool → Bits → ℕ
-  sum b q = serverSum (sound .expander) (s .n) b (cond b (s .seeds1) (s .seeds0)) (cond b (s .shares1) (s .shares0)) (bitOf q) (length q)
+  sum b q = serverSum (sound .expander) (s .n) b (cond b (s .seeds1) (s .seeds0)) (cond b (s .shares1) (s .shares0)) allCount (bitOf q) (length q)
 
   sum-small : (b : Bool) (q : Bits) → sum b q < p
-  sum-small b q = server-below (sound .expander) (s .n) b _ _ (bitOf q) (length q)
+  sum-small b q = server-below (sound .expander) (s .n) b _ _ allCount (bitOf q) (length q)
 
   sum-fits : (b : Bool) (q : Bits) → sum b q < 2 ^ 64
   sum-fits b q = omega (arith, sum-small b q)

@@ -8,13 +8,13 @@ use native.Mathlib.Omega.{arith}
 use borrow.Author.Tests.{le-ltb, eq-eqb, leb-true, eqb-true}
 use lib.Dec.{leb, eqb}
 use lib.ListN.{length, getD, drop, length-map}
-use Rattle.numbers.specs.Lists.{All}
+use Rattle.places.specs.Lists.{All}
 use Rattle.bits.specs.Strings.{Bits}
 use Rattle.bits.specs.Packing.{packedLength, unpack}
 use Rattle.bits.proofs.Packed.{unpack-length}
-use Rattle.numbers.proofs.Places.{window-length}
+use Rattle.places.proofs.Places.{window-length}
 use Rattle.calls.specs.Bounds.{mostReports}
-use Rattle.calls.specs.Causes.{accepted}
+use Rattle.calls.specs.Outcome.{accepted}
 use Rattle.calls.proofs.Decisions.{neither-test, in-bounds}
 use Rattle.calls.proofs.Judged.{judged-accepted, _&_}
 use Rattle.expander.specs.Expander.{choiceOf, under}
@@ -30,9 +30,9 @@ use Rattle.point.specs.Instance.{scheme}
 use Rattle.point.proofs.Joined.{every-true}
 use Rattle.query.specs.Query.{limit, prefixLength, prefixCount, packedPrefixes, prefixesOf, sparesZero, isAscending, isQuery}
 use Rattle.tree.specs.Search.{totals}
-use Rattle.numbers.proofs.Lists.{and-left, and-right, all-map}
+use Rattle.places.proofs.Lists.{and-left, and-right, all-map}
 use Rattle.query.proofs.Queries.{parts-length, prefix-at}
-use Rattle.idpf.specs.Reports.{reportCount, publicShareAt, serverSum}
+use Rattle.idpf.specs.Reports.{reportCount, publicShareAt, allCount, serverSum}
 use Rattle.idpf.specs.Share.{wrongLengths, payloadTooLarge, spareBitsSet, shareCauses, shareBytes, shareOutcome}
 use Rattle.honest.proofs.Made.{HonestReport, lentSeeds, lentShares, sumAt}
 use Rattle.honest.proofs.Pieces.{all-at, all-from}
@@ -103,5 +103,5 @@ module _ (e : Expander) (number : ℕ) (named : choiceOf number ≡ Known e) (n 
   -- So it does where it is lent what is equal.
   pub share-lent : (b : Bool) (seeds shares : List ℕ) → seeds ≡ lentSeeds b rs → shares ≡ lentShares e n rs
       → (query : List ℕ) → isQuery n query ≡ true → (room : ℕ) → 8 * prefixCount query ≤ room
-      → shareOutcome n number b seeds shares query room ≡ accepted (totals (λ (q : Bits). serverSum e n b seeds shares (bitOf q) (length q)) (prefixesOf query))
+      → shareOutcome n number b seeds shares query room ≡ accepted (totals (λ (q : Bits). serverSum e n b seeds shares allCount (bitOf q) (length q)) (prefixesOf query))
   share-lent b seeds shares these those query asks room fits = rw (these, those) (share-accepted b query asks room fits)

@@ -1,6 +1,6 @@
 -- Whatever reports were lent, if no cause before 11 applies to the search: both servers succeed for each query, and write their sums. Assumes nothing.
 use mathlib.Core.Path.{_≡_, sym, ap, _∙_}
-use mathlib.Core.Bool.{Bool, true, false, not}
+use mathlib.Core.Bool.{Bool, true, false, cond, not}
 use mathlib.Core.List.{List}
 use Prim.Native.Nat.{ℕ, zero, suc, _*_, _/_, _%_, _≤_, _<_}
 use native.Mathlib.Nat.{mul-mod-right, mul-div-right, mod-lt}
@@ -9,7 +9,7 @@ use borrow.Author.Tests.{le-ltb, eq-eqb}
 use lib.ListN.{length}
 use Rattle.bits.specs.Strings.{Bits}
 use Rattle.calls.specs.Bounds.{mostReports}
-use Rattle.calls.specs.Causes.{accepted}
+use Rattle.calls.specs.Outcome.{accepted}
 use Rattle.calls.proofs.Decisions.{neither-test, in-bounds}
 use Rattle.calls.proofs.Judged.{judged-accepted, _&_}
 use Rattle.expander.specs.Expander.{choiceOf, under}
@@ -17,27 +17,31 @@ use Rattle.expander.specs.declared.Expander.{Expander}
 use Rattle.expander.specs.declared.Choice.{Choice}
 use Rattle.expander.specs.declared.Choice.the-variants.{Known, Unknown}
 use Rattle.expander.proofs.Chosen.{known}
-use Rattle.group.specs.Modular.{p}
+use Rattle.group.specs.Modular.{p, field}
 use Rattle.point.specs.Share.{bitOf}
 use Rattle.point.specs.PublicShare.{publicShareLength}
 use Rattle.point.proofs.Joined.{every-true}
 use Rattle.query.specs.Query.{isQuery, prefixCount, prefixesOf}
 use Rattle.tree.specs.Search.{totals}
-use Rattle.idpf.specs.Reports.{reportCount, sumBelow, serverSum}
+use Rattle.idpf.specs.Reports.{reportCount, allCount, sumWhere, serverSum}
 use Rattle.idpf.specs.Share.{wrongLengths, payloadTooLarge, spareBitsSet, shareCauses, shareBytes, shareOutcome}
 use Rattle.search.specs.Search.{Lent, totalUnder, total}
 use Rattle.search.proofs.Outcome.{Whole}
 
 -- a sum in the group is below p
-sum-below : (m : ℕ) (f : ℕ → ℕ) → sumBelow m f < p
-unfolding sumBelow
-sum-below zero f = omega arith
-sum-below (suc m) f = mod-lt _ (omega arith)
+sum-below : (test : ℕ → Bool) (m : ℕ) (f : ℕ → ℕ) → sumWhere field test m f < p
+unfolding sumWhere
+sum-below test zero f = omega arith
+sum-below test (suc m) f = go (test m) (sum-below test m f)
+  where
+    go : (b : Bool) {s : ℕ} → s < p → cond b (field .add s (f m)) s < p
+    go true h = mod-lt _ (omega arith)
+    go false h = h
 
 -- so a server's sum is
-pub server-below : (e : Expander) (n : ℕ) (b : Bool) (seeds shares : List ℕ) (q : ℕ → Bool) (k : ℕ) → serverSum e n b seeds shares q k < p
+pub server-below : (e : Expander) (n : ℕ) (b : Bool) (seeds shares : List ℕ) (test q : ℕ → Bool) (k : ℕ) → serverSum e n b seeds shares test q k < p
 unfolding serverSum
-server-below e n b seeds shares q k = sum-below (reportCount n seeds shares) _
+server-below e n b seeds shares test q k = sum-below test (reportCount n seeds shares) _
 
 -- and so a total is, whatever was lent
 pub total-below : (s : Lent) (q : Bits) → total s q < p
@@ -72,7 +76,7 @@ module _ (n number : ℕ) (e : Expander) (named : choiceOf number ≡ Known e) (
 
   -- For a query and room for 8 bytes a prefix, server b succeeds and writes its sum at each prefix.
   pub whole-share : (b : Bool) (query : List ℕ) → isQuery n query ≡ true → (room : ℕ) → 8 * prefixCount query ≤ room
-      → shareOutcome n number b seeds shares query room ≡ accepted (totals (λ (q : Bits). serverSum e n b seeds shares (bitOf q) (length q)) (prefixesOf query))
+      → shareOutcome n number b seeds shares query room ≡ accepted (totals (λ (q : Bits). serverSum e n b seeds shares allCount (bitOf q) (length q)) (prefixesOf query))
   unfolding shareOutcome shareBytes
   whole-share b query asks room fits =
       let most : length seeds / 16 ≤ mostReports = omega (arith, seeds-count) in

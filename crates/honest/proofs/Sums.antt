@@ -6,7 +6,7 @@ use Prim.Native.Nat.{ℕ, zero, suc, _+_, _*_, _/_, _%_, _≤_, _<_, min}
 use native.Mathlib.Nat.{mul-div-right, min-eq-left}
 use native.Mathlib.Omega.{arith}
 use lib.ListN.{length, getD}
-use Rattle.numbers.specs.Lists.{All}
+use Rattle.places.specs.Lists.{All}
 use Rattle.bits.specs.Strings.{Bits, count}
 use Rattle.group.specs.Modular.{p, field}
 use Rattle.group.proofs.Modular.{field-laws}
@@ -17,22 +17,22 @@ use Rattle.point.specs.Totals.{Report, rootSeed, strings, sumOf, reportShare, s
 use Rattle.point.specs.Instance.{fieldScheme, scheme}
 use Rattle.point.proofs.Honest.{report-read}
 use Rattle.point.proofs.Instance.{scheme-lawful, p-fits, scheme-count}
-use Rattle.numbers.proofs.Lists.{all-map}
-use Rattle.idpf.specs.Reports.{reportCount, seedAt, publicShareAt, sumBelow, lentShare, serverSum}
+use Rattle.places.proofs.Lists.{all-map}
+use Rattle.idpf.specs.Reports.{reportCount, seedAt, publicShareAt, allCount, sumWhere, lentShare, serverSum}
 use Rattle.honest.proofs.Made.{HonestReport, lentSeeds, lentShares, sumAt}
 use Rattle.honest.proofs.Pieces.{all-at, pieces-length, piece-at}
 use Rattle.honest.proofs.Keys.{key-passes}
 
 -- ---- a sum from the left is a sum from the right
 
-sum-shift : (m : ℕ) (f : ℕ → ℕ) → sumBelow (suc m) f ≡ field .add (f 0) (sumBelow m (λ i. f (suc i)))
-unfolding sumBelow
+sum-shift : (m : ℕ) (f : ℕ → ℕ) → sumWhere field allCount (suc m) f ≡ field .add (f 0) (sumWhere field allCount m (λ i. f (suc i)))
+unfolding sumWhere
 sum-shift zero f = field-laws .comm 0 (f 0)
-sum-shift (suc m) f = ap (λ (s : ℕ). field .add s (f (suc m))) (sum-shift m f) ∙ field-laws .assoc (f 0) (sumBelow m (λ i. f (suc i))) (f (suc m))
+sum-shift (suc m) f = ap (λ (s : ℕ). field .add s (f (suc m))) (sum-shift m f) ∙ field-laws .assoc (f 0) (sumWhere field allCount m (λ i. f (suc i))) (f (suc m))
 
 pub sum-over : {X : Type 0} (f : ℕ → ℕ) (g : X → ℕ) (xs : List X) (d : X) → ((i : ℕ) → i < length xs → f i ≡ g (getD xs i d))
-    → sumBelow (length xs) f ≡ sumOf (field .add) (field .zero) g xs
-unfolding sumOf sumBelow
+    → sumWhere field allCount (length xs) f ≡ sumOf (field .add) (field .zero) g xs
+unfolding sumOf sumWhere
 sum-over f g [] d h = refl
 sum-over f g (x ∷ xs) d h =
     sum-shift (length xs) f
@@ -90,7 +90,7 @@ module _ (e : Expander) (n : ℕ) (from : 1 ≤ n) (rs : List (Report ℕ)) (hon
       unfolding serverSum serverTotal fieldScheme
       sum-total =
           let d : Report ℕ = record { string = []; seed0 = []; seed1 = []; weight = 0 } in
-          ap (λ (m : ℕ). sumBelow m (lentShare e n b (lentSeeds b rs) (lentShares e n rs) (bitOf q) (length q))) lent-count
+          ap (λ (m : ℕ). sumWhere field allCount m (lentShare e n b (lentSeeds b rs) (lentShares e n rs) (bitOf q) (length q))) lent-count
           ∙ sum-over (lentShare e n b (lentSeeds b rs) (lentShares e n rs) (bitOf q) (length q)) (reportShare (scheme e) b q) rs d (lent-share d)
 
   -- Both servers' totals over at most 65,535 reports add modulo p to the number of strings that have the prefix.

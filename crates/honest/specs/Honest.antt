@@ -4,9 +4,9 @@ use mathlib.Core.Path.{_≡_}
 use mathlib.Core.List.{List, []}
 use lib.ListN.{length, getD, take}
 use Rattle.bits.specs.Strings.{Bits}
-use Rattle.numbers.specs.Numbers.{Bytes}
+use Rattle.places.specs.Places.{Bytes}
 use Rattle.bits.specs.Packing.{pack}
-use Rattle.calls.specs.Causes.{Outcome, accepted}
+use Rattle.calls.specs.Outcome.{Outcome, accepted}
 use Rattle.point.specs.PublicShare.{publicShareLength}
 use Rattle.query.specs.Query.{OfLength}
 use Rattle.keymaker.specs.Key.{keyOutcome}
@@ -44,3 +44,7 @@ pub record Honest (s : Lent) (xs : List Bits) : Type 0 where
   pub shares1 : length (s .shares1) ≡ publicShareLength (s .n) * length xs
   pub made0 : (i : ℕ) → i < length xs → keyAt s (getD xs i []) i ≡ accepted (publicShareAt (s .n) (s .shares0) i)
   pub made1 : (i : ℕ) → i < length xs → keyAt s (getD xs i []) i ≡ accepted (publicShareAt (s .n) (s .shares1) i)
+
+-- the strings of the counted reports, of those that are lent for the strings xs: all of them
+abbrev pub countedStrings : Lent → List Bits → List Bits
+countedStrings s xs = xs

@@ -6,17 +6,17 @@ use mathlib.Core.List.{List, [], _∷_, _++_}
 use mathlib.Core.Logic.{_⊎_}
 use mathlib.Core.Option.{Option, none, some}
 use lib.ListN.{length}
-use lib.Dec.{leb}
 use Rattle.bits.specs.Strings.{Bits}
 use Rattle.numbers.specs.Numbers.{little}
-use Rattle.calls.specs.Causes.{Outcome}
+use Rattle.calls.specs.Causes.{Cause}
+use Rattle.calls.specs.Outcome.{Outcome}
 use Rattle.group.specs.Modular.{field}
 use Rattle.query.specs.Query.{query, prefixLength, prefixCount, children}
 use Rattle.tree.specs.Search.{start, searchList}
 use Rattle.idpf.specs.Share.{shareOutcome}
 use Rattle.combine.specs.Answer.{numbers, added, Answer, answerBytes, Kind, nextQuery, heavyList, searchEnded}
-use Rattle.combine.specs.Combine.{combineAnswer, combineOutcome, combineKind}
-use Rattle.search.specs.Search.{Lent, total, searchNumber}
+use Rattle.combine.specs.Combine.{combineAnswer, spaceCauses, combineOutcome, combineKind}
+use Rattle.search.specs.Search.{Lent, thresholdOf, reachesOf, total, searchNumber}
 
 -- no cause before 11 applies to the search: its number is 0 or 11
 abbrev pub Passes : Lent → Type 0
@@ -67,17 +67,21 @@ module _ (s : Lent) where
 
   -- what combining is to answer to both shares, and the space that this takes
   abbrev pub answerFor : List ℕ → Answer
-  answerFor q = combineAnswer (s .n) (s .t) q (shareFor false q) (shareFor true q)
+  answerFor q = combineAnswer (s .n) (thresholdOf s) q (shareFor false q) (shareFor true q)
 
   abbrev pub spaceFor : List ℕ → ℕ
   spaceFor q = length (answerBytes (prefixLength q) (answerFor q))
 
   -- combining's outcome with `room` bytes of space, and the kind of its answer
   abbrev pub combineIn : ℕ → List ℕ → Outcome
-  combineIn room q = combineOutcome (s .n) (s .t) q (shareFor false q) (shareFor true q) room
+  combineIn room q = combineOutcome (s .n) (thresholdOf s) q (shareFor false q) (shareFor true q) room
 
   abbrev pub kindIn : ℕ → List ℕ → Option Kind
-  kindIn room q = combineKind (s .n) (s .t) q (shareFor false q) (shareFor true q) room
+  kindIn room q = combineKind (s .n) (thresholdOf s) q (shareFor false q) (shareFor true q) room
+
+  -- the cause of combining that speaks of its space and of the limit
+  abbrev pub spaceIn : ℕ → List ℕ → List Cause
+  spaceIn room q = spaceCauses (s .n) (thresholdOf s) q (shareFor false q) (shareFor true q) room
 
   -- ---- the rounds
 
@@ -90,7 +94,7 @@ module _ (s : Lent) where
 
   -- the prefixes of k bits that it keeps; for k = 0 the empty prefix
   abbrev pub keptAt : ℕ → List Bits
-  keptAt k = searchList (leb (s .t)) (total s) k
+  keptAt k = searchList (reachesOf s) (total s) k
 
   -- the query for both children of each
   abbrev pub queryAt : ℕ → List ℕ

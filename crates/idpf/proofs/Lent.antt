@@ -1,21 +1,20 @@
 -- The reports that a server is lent: how many, where each lies, and the sum over them, in the form that the code has. Assumes nothing.
 use mathlib.Core.Path.{_≡_, refl, sym, ap, ap₂, _∙_}
-use mathlib.Core.Bool.{Bool}
+use mathlib.Core.Bool.{Bool, cond}
 use mathlib.Core.List.{List}
 use Prim.Native.Nat.{ℕ, suc, _+_, _-_, _*_, _/_, _≤_, _<_, min}
 use native.Mathlib.Nat.{div-zero, div-add-mod, min-zero, min-eq-left, min-eq-right, min-le-left, min-le-right, mul-le-mul-left, mul-suc}
 use native.Mathlib.Numerals.{add-one}
 use native.Mathlib.Omega.{arith}
 use lib.ListN.{length, getD, take, drop}
-use Rattle.numbers.specs.Numbers.{Bytes}
-use Rattle.numbers.specs.Places.{window}
-use Rattle.numbers.proofs.Places.{window-inside, window-bytes}
+use Rattle.places.specs.Places.{Bytes, window}
+use Rattle.places.proofs.Places.{window-inside, window-bytes}
 use Rattle.expander.specs.declared.Expander.{Expander}
 use Rattle.group.specs.Modular.{field}
 use Rattle.point.specs.Share.{share}
 use Rattle.point.specs.PublicShare.{publicShareLength, readCorrection}
 use Rattle.point.specs.Instance.{scheme}
-use Rattle.idpf.specs.Reports.{reportCount, seedAt, publicShareAt, sumBelow, lentShare}
+use Rattle.idpf.specs.Reports.{reportCount, seedAt, publicShareAt, sumWhere, lentShare}
 
 -- ---- how many
 
@@ -69,10 +68,11 @@ module _ (n : ℕ) (seeds shares : List ℕ) (i : ℕ) (h : i < reportCount n se
 
 -- ---- their sum
 
-pub sum-none : (f : ℕ → ℕ) → 0 ≡ sumBelow 0 f
-unfolding sumBelow
-sum-none f = refl
+module _ (test : ℕ → Bool) (f : ℕ → ℕ) where
+  pub sum-none : 0 ≡ sumWhere field test 0 f
+  unfolding sumWhere
+  sum-none = refl
 
-pub sum-more : (f : ℕ → ℕ) (m : ℕ) {s x r : ℕ} → s ≡ sumBelow m f → x ≡ f m → r ≡ field .add s x → r ≡ sumBelow (m + 1) f
-unfolding sumBelow
-sum-more f m a b c = c ∙ ap₂ (field .add) a b ∙ ap (λ (j : ℕ). sumBelow j f) (sym (add-one m))
+  pub sum-more : (m : ℕ) {s r : ℕ} → s ≡ sumWhere field test m f → r ≡ cond (test m) (field .add s (f m)) s → r ≡ sumWhere field test (m + 1) f
+  unfolding sumWhere
+  sum-more m a b = b ∙ ap (λ (s : ℕ). cond (test m) (field .add s (f m)) s) a ∙ ap (λ (j : ℕ). sumWhere field test j f) (sym (add-one m))

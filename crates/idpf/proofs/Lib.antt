@@ -1,7 +1,5 @@
-pub mod Descent
 pub mod Lent
 pub mod LentPrefix
-pub mod Siblings
 pub mod ShareChecks
 pub mod ShareOutcome
 pub mod ShareSums

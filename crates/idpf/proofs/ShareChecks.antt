@@ -1,37 +1,18 @@
--- The tests of causes 6 and 7, in the form that the loops have. Assumes nothing.
-use mathlib.Core.Path.{_≡_, refl, ap₂}
-use mathlib.Core.Bool.{Bool, true, false, not, _&&_}
+-- The tests of causes 4, 6 and 7, in the form that the code has. Assumes nothing.
+use mathlib.Core.Path.{_≡_}
+use mathlib.Core.Bool.{Bool, true, false, not}
 use mathlib.Core.List.{List}
-use Prim.Native.Nat.{ℕ, _+_, _*_, _/_, _%_, _^_, _≤_, _<_}
+use Prim.Native.Nat.{ℕ, _+_, _*_, _/_, _%_, _≤_, _<_}
 use native.Mathlib.Nat.{mod-zero, div-zero}
-use native.Mathlib.Numerals.{add-one}
 use native.Mathlib.Omega.{arith}
-use lib.ListN.{length, getD, take, drop}
+use lib.ListN.{length, take, drop}
 use lib.Dec.{eqb}
 use borrow.Author.Tests.{eq-eqb, ne-eqb}
-use Rattle.point.specs.PublicShare.{publicShareLength, every, spareBitsZero}
+use Rattle.point.specs.PublicShare.{publicShareLength, every}
 use Rattle.point.proofs.Joined.{every-false}
 use Rattle.idpf.specs.Reports.{reportCount, publicShareAt}
 use Rattle.idpf.specs.Share.{wrongLengths}
 use Rattle.idpf.proofs.Lent.{share-inside}
-
--- one place more
-pub every-more : (k : ℕ) (f : ℕ → Bool) → every k f ≡ true → f k ≡ true → every (k + 1) f ≡ true
-unfolding every
-every-more k f h e = rw add-one (ap₂ _&&_ h e)
-
-pub every-none : (f : ℕ → Bool) → every 0 f ≡ true
-unfolding every
-every-none f = refl
-
--- the last control byte is full
-pub spare-full : (n : ℕ) (bytes : List ℕ) → n % 4 ≡ 0 → spareBitsZero n bytes ≡ true
-unfolding spareBitsZero
-spare-full n bytes h = rw (eq-eqb (n % 4) 0 h)
-
-pub spare-last : (n : ℕ) (bytes : List ℕ) → (n % 4 ≡ 0 → ⊥) → spareBitsZero n bytes ≡ eqb (getD bytes (n / 4) 0 / 2 ^ (2 * (n % 4))) 0
-unfolding spareBitsZero
-spare-last n bytes h = rw (ne-eqb (n % 4) 0 h)
 
 -- the public share of a report that is counted lies within
 pub report-room : (n : ℕ) (seeds shares : List ℕ) {size count i : ℕ} → size ≡ publicShareLength n → count ≡ reportCount n seeds shares → i < count

@@ -8,13 +8,10 @@ use mathlib.Core.List.{List}
 use mathlib.Core.Logic.{inl, inr}
 use borrow.Author.Tests.{le-ltb, ltb-false}
 use lib.ListN.{length, getD}
-use lib.Dec.{T, eqb, ltb, ltb→lt, lt→ltb, not-T}
-use Rattle.calls.specs.Bounds.{lengthOutside, mostReports}
-use Rattle.calls.specs.Clauses.{Due}
-use Rattle.calls.proofs.Decisions.{passed, failed, failed-test, differ, differ-test, either, either-test, beyond, beyond-test, above-bounds}
-use Rattle.calls.proofs.Judged.{due, none, next}
-use Rattle.expander.specs.Expander.{isExpander}
-use Rattle.expander.proofs.Chosen.{unnamed, unnamed-test}
+use lib.Dec.{T, eqb, ltb, not-T}
+use Rattle.calls.specs.Causes.{Due}
+use Rattle.calls.proofs.Decisions.{passed, failed, failed-test, differ, differ-test, either, either-test, above-bounds}
+use Rattle.calls.proofs.Judged.{due, none, next, length-decided, expander-decided, reports-decided, space-decided}
 use Rattle.group.specs.Modular.{p}
 use Rattle.point.specs.PublicShare.{publicShareLength, readCorrection, payloadsBelow, spareBitsZero}
 use Rattle.point.proofs.Joined.{every-false, every-fails}
@@ -22,7 +19,7 @@ use Rattle.point.proofs.PublicShare.{spare-set}
 use Rattle.query.specs.Query.{isQuery, prefixCount}
 use Rattle.query.proofs.Queries.{query-exact}
 use Rattle.idpf.specs.Reports.{reportCount, publicShareAt}
-use Rattle.idpf.specs.Share.{WrongLengths, wrongLengths, PayloadTooLarge, payloadTooLarge, SpareBitsSet, spareBitsSet, shareClauses, shareOutcome}
+use Rattle.idpf.specs.Share.{WrongLengths, wrongLengths, PayloadTooLarge, payloadTooLarge, SpareBitsSet, spareBitsSet, shareCauses, shareOutcome}
 use Rattle.idpf.proofs.Lent.{share-bytes}
 use Rattle.idpf.proofs.ShareOutcome.{cause-1, outcome-number}
 
@@ -72,25 +69,25 @@ module _ (n : ℕ) (seeds shares : List ℕ) where
 
 module _ (n e : ℕ) (b : Bool) (seeds shares query : List ℕ) (room : ℕ)
     (share-byte : (i : ℕ) → getD shares i 0 < 256) (query-byte : (i : ℕ) → getD query i 0 < 256) where
-  inside-due : n ≤ 256 → Due (shareClauses n e seeds shares query room) (shareOutcome n e b seeds shares query room .number)
+  inside-due : n ≤ 256 → Due (shareCauses n e seeds shares query room) (shareOutcome n e b seeds shares query room .number)
   unfolding shareOutcome
   inside-due h =
       let exact = query-exact n query query-byte in
       due
-      (next {b = lengthOutside n} (beyond 256 n) (beyond-test 256 n)
-      (next {b = not (isExpander e)} (unnamed e) (unnamed-test e)
+      (length-decided n
+      (expander-decided e
       (next {b = wrongLengths n seeds shares} (wrong n seeds shares) (wrong-test n seeds shares)
-      (next {b = ltb mostReports (length seeds / 16)} (ltb→lt mostReports (length seeds / 16)) (lt→ltb mostReports (length seeds / 16))
+      (reports-decided (length seeds / 16)
       (next {b = payloadTooLarge n seeds shares} (too-large n seeds shares) (too-large-test n seeds shares)
       (next {b = spareBitsSet n seeds shares} (bits-set n seeds shares share-byte) (bits-set-test n seeds shares share-byte)
       (next {b = not (isQuery n query)}
       (λ t q. true≢false (sym (exact .1 q) ∙ failed (isQuery n query) t))
       (λ g. not-T (isQuery n query) (λ t. g (exact .0 (passed (isQuery n query) t))))
-      (next {b = ltb room (8 * prefixCount query)} (ltb→lt room (8 * prefixCount query)) (lt→ltb room (8 * prefixCount query)) none))))))))
+      (space-decided (8 * prefixCount query) room none))))))))
       _
 
   -- for all numbers, where each element of the public shares and of the query is below 256: a longer string is refused before its query is judged
-  pub share-due : Due (shareClauses n e seeds shares query room) (shareOutcome n e b seeds shares query room .number)
+  pub share-due : Due (shareCauses n e seeds shares query room) (shareOutcome n e b seeds shares query room .number)
   share-due = elim (decLt 256 n) [
     | yes a ↦ inl (inr a, sym (outcome-number n e b seeds shares query room (cause-1 n e seeds shares query room (above-bounds 256 n (omega arith) a))))
     | no a ↦ inside-due (omega arith)

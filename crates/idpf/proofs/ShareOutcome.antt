@@ -6,31 +6,28 @@ use mathlib.Core.Path.{_≡_, ap, _∙_}
 use mathlib.Core.Bool.{Bool, true, false, not}
 use mathlib.Core.List.{List, []}
 use borrow.Author.Tests.{eqb-true, lt-ltb, le-ltb, ltb-false, not-false}
-use lib.ListN.{length, getD, drop, length-map}
+use lib.ListN.{length, drop, length-map}
 use lib.Dec.{eqb, ltb}
-use Rattle.numbers.specs.Lists.{All}
 use Rattle.bits.specs.Strings.{Bits}
 use Rattle.bits.specs.Packing.{packedLength, unpack}
-use Rattle.calls.specs.Bounds.{lengthOutside, mostReports}
-use Rattle.calls.specs.Causes.{Cause, accepted, judged}
-use Rattle.calls.proofs.Decisions.{neither}
-use Rattle.calls.proofs.Judged.{judged-number, judged-refused, judged-accepted, judged-clear}
+use Rattle.calls.specs.Bounds.{mostBits, mostReports, outside}
+use Rattle.calls.specs.Causes.{Cause}
+use Rattle.calls.specs.Outcome.{accepted, judged}
+use Rattle.calls.proofs.Decisions.{neither, bounds}
+use Rattle.calls.proofs.Judged.{Clear, judged-number, judged-refused, judged-accepted, judged-clear}
 use Rattle.expander.specs.Expander.{isExpander, choiceOf}
 use Rattle.expander.specs.declared.Expander.{Expander}
 use Rattle.expander.specs.declared.Choice.the-variants.{Known, Unknown}
 use Rattle.expander.proofs.Chosen.{unknown}
 use Rattle.group.specs.Modular.{p}
-use Rattle.point.specs.Correction.{Correction}
 use Rattle.point.specs.Share.{bitOf}
-use Rattle.point.specs.PublicShare.{publicShare, publicShareLength, payloadsBelow, spareBitsZero, Wellformed}
-use Rattle.point.proofs.PublicShare.{public-exactly}
+use Rattle.point.specs.PublicShare.{publicShareLength, payloadsBelow, spareBitsZero}
 use Rattle.point.proofs.Joined.{every-at}
 use Rattle.query.specs.Query.{prefixLength, prefixCount, packedPrefixes, prefixesOf, isQuery}
 use Rattle.query.proofs.Queries.{parts-length}
 use Rattle.tree.proofs.Lengths.{totals-length}
-use Rattle.idpf.specs.Reports.{reportCount, publicShareAt, serverSum}
+use Rattle.idpf.specs.Reports.{reportCount, publicShareAt, allCount, serverSum}
 use Rattle.idpf.specs.Share.{wrongLengths, payloadTooLarge, spareBitsSet, shareCauses, shareBytes, shareOutcome}
-use Rattle.idpf.proofs.Lent.{share-bytes}
 
 -- ---- the first cause that applies
 
@@ -38,10 +35,10 @@ module _ (n e : ℕ) (seeds shares query : List ℕ) (room : ℕ) where
   abbrev pub causes : List Cause
   causes = shareCauses n e seeds shares query room
 
-  pub cause-1 : lengthOutside n ≡ true → 1 ≡ judged causes [] .number
+  pub cause-1 : outside mostBits n ≡ true → 1 ≡ judged causes [] .number
   cause-1 h = rw h
 
-  module _ (h₁ : lengthOutside n ≡ false) where
+  module _ (h₁ : outside mostBits n ≡ false) where
     pub cause-3 : isExpander e ≡ false → 3 ≡ judged causes [] .number
     cause-3 h = rw (h₁, h)
 
@@ -93,21 +90,21 @@ whole : (len w : ℕ) → len % w ≡ 0 → len ≡ w * (len / w)
 whole len w h = omega (arith, div-add-mod' len w, mul-comm w (len / w))
 
 module _ (n e : ℕ) (seeds shares query : List ℕ) (room : ℕ) where
-  pub clear : judged (causes n e seeds shares query room) [] .number ≡ 0 → All (λ c. c .applies ≡ false) (causes n e seeds shares query room)
+  pub clear : judged (causes n e seeds shares query room) [] .number ≡ 0 → Clear (causes n e seeds shares query room)
   clear = judged-clear (causes n e seeds shares query room) []
       (omega arith, (omega arith, (omega arith, (omega arith, (omega arith, (omega arith, (omega arith, (omega arith, tt))))))))
 
   pub ready : judged (causes n e seeds shares query room) [] .number ≡ 0 → Ready n e seeds shares query room
   ready h =
       let t = clear h in
-      let bounds = neither (ltb n 1) (ltb 256 n) (t .0) in
+      let inside = bounds mostBits n (t .0) in
       let l = neither (not (eqb (length seeds % 16) 0)) _ (t .1 .1 .0) in
       let m = neither (not (eqb (length shares % publicShareLength n) 0)) _ (l .1) in
       let same : length seeds / 16 ≡ length shares / publicShareLength n = eqb-true _ _ (not-false _ (m .1)) in
       let count : reportCount n seeds shares ≡ length seeds / 16 = min-eq-left (omega (arith, same)) in
       record {
-        some-bits = ltb-false n 1 (bounds .0);
-        not-longer = ltb-false 256 n (bounds .1);
+        some-bits = inside .0;
+        not-longer = inside .1;
         known = not-false _ (t .1 .0);
         whole-seeds = rw count (whole (length seeds) 16 (eqb-true _ 0 (not-false _ (l .0))));
         whole-shares = rw (count, same) (whole (length shares) (publicShareLength n) (eqb-true _ 0 (not-false _ (m .0))));
@@ -117,13 +114,6 @@ module _ (n e : ℕ) (seeds shares query : List ℕ) (room : ℕ) where
         a-query = not-false _ (t .1 .1 .1 .1 .1 .1 .0);
         fits = ltb-false room (8 * prefixCount query) (t .1 .1 .1 .1 .1 .1 .1 .0);
       }
-
--- each public share that was lent is then that of n correction words as they should be
-pub ready-share : (n e : ℕ) (seeds shares query : List ℕ) (room : ℕ) → Ready n e seeds shares query room → ((j : ℕ) → getD shares j 0 < 256)
-    → (i : ℕ) → i < reportCount n seeds shares → (c : ℕ → Correction ℕ) × Wellformed p n c × (publicShare n c ≡ publicShareAt n shares i)
-ready-share n e seeds shares query room r byte i h =
-    let b = share-bytes n seeds shares i h byte in
-    public-exactly p (omega arith) n (publicShareAt n shares i) (b .byte) .1 (b .size, r .payloads i h, r .spares i h)
 
 -- ---- the outcome
 
@@ -161,4 +151,4 @@ prefixes-length query =
 pub bytes-length : (n : ℕ) (b : Bool) (seeds shares query : List ℕ) (x : Expander) → length (shareBytes n b seeds shares query x) ≡ 8 * prefixCount query
 unfolding shareBytes
 bytes-length n b seeds shares query x =
-    totals-length (λ (q : Bits). serverSum x n b seeds shares (bitOf q) (length q)) (prefixesOf query) ∙ ap (λ (m : ℕ). 8 * m) (prefixes-length query)
+    totals-length (λ (q : Bits). serverSum x n b seeds shares allCount (bitOf q) (length q)) (prefixesOf query) ∙ ap (λ (m : ℕ). 8 * m) (prefixes-length query)

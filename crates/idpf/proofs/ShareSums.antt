@@ -9,18 +9,18 @@ use lib.ListN.{length, getD, drop, drop-of-length-le}
 use lib.Seq.{drop-cons}
 use Rattle.bits.specs.Strings.{Bits}
 use Rattle.numbers.specs.Numbers.{little}
-use Rattle.bits.specs.Packing.{unpack}
-use Rattle.numbers.specs.Places.{putAt, overlay}
+use Rattle.bits.specs.Packing.{bitsOf, unpack}
+use Rattle.places.specs.Places.{putAt, overlay}
 use Rattle.numbers.proofs.Endian.{little-length}
 use Rattle.bits.proofs.Packed.{unpack-length}
-use Rattle.numbers.proofs.Places.{putAt-length, putAt-overlay, Grown, grown-start, grown-more, grown-end}
+use Rattle.places.proofs.Places.{putAt-length, putAt-overlay, Grown, grown-start, grown-more, grown-end}
 use Rattle.expander.specs.declared.Expander.{Expander}
 use Rattle.point.specs.Share.{bitOf}
 use Rattle.query.specs.Query.{prefixLength, prefixCount, prefixesOf, isQuery}
 use Rattle.tree.specs.Search.{totals}
 use Rattle.query.specs.Prefix.{packedPrefix}
 use Rattle.query.proofs.Ready.{prefix-size, prefix-unpack}
-use Rattle.idpf.specs.Reports.{packedBit, serverSum}
+use Rattle.idpf.specs.Reports.{allCount, serverSum}
 use Rattle.idpf.specs.Share.{shareBytes}
 use Rattle.idpf.proofs.LentPrefix.{serverSum-unpack}
 use Rattle.idpf.proofs.ShareOutcome.{prefixes-length, bytes-length}
@@ -28,7 +28,7 @@ use Rattle.idpf.proofs.ShareOutcome.{prefixes-length, bytes-length}
 module _ (e : Expander) (n : ℕ) (b : Bool) (seeds shares : List ℕ) where
   -- the sum at a prefix
   abbrev pub sumAt : Bits → ℕ
-  sumAt q = serverSum e n b seeds shares (bitOf q) (length q)
+  sumAt q = serverSum e n b seeds shares allCount (bitOf q) (length q)
 
   -- the sums at all prefixes of a query
   abbrev pub all : List ℕ → List ℕ
@@ -45,12 +45,12 @@ module _ (e : Expander) (n : ℕ) (b : Bool) (seeds shares : List ℕ) where
         let k : i < length (prefixesOf q) = rw (prefixes-length q) h in
         rw (add-one i, drop-cons (prefixesOf q) i [] k)
 
-    sum-next : (i k : ℕ) → i < prefixCount q → k ≡ prefixLength q → serverSum e n b seeds shares (packedBit (packedPrefix q i)) k ≡ sumAt (getD (prefixesOf q) i [])
+    sum-next : (i k : ℕ) → i < prefixCount q → k ≡ prefixLength q → serverSum e n b seeds shares allCount (bitOf (bitsOf (packedPrefix q i))) k ≡ sumAt (getD (prefixesOf q) i [])
     sum-next i k h l =
         let size : length (unpack k (packedPrefix q i)) ≡ k = unpack-length k (packedPrefix q i) (rw l (prefix-size n q i r h)) in
         let same : unpack k (packedPrefix q i) ≡ getD (prefixesOf q) i [] = rw l (prefix-unpack n q i r h) in
-        serverSum-unpack e n b seeds shares k (packedPrefix q i)
-        ∙ ap (serverSum e n b seeds shares (bitOf (unpack k (packedPrefix q i)))) (sym size)
+        serverSum-unpack e n b seeds shares allCount k (packedPrefix q i)
+        ∙ ap (serverSum e n b seeds shares allCount (bitOf (unpack k (packedPrefix q i)))) (sym size)
         ∙ ap sumAt same
 
     -- Space enough for all of them.
@@ -63,7 +63,7 @@ module _ (e : Expander) (n : ℕ) (b : Bool) (seeds shares : List ℕ) where
       sums-start = grown-start d 0 (all q)
 
       pub sums-more : (out out′ : List ℕ) (i k : ℕ) → i < prefixCount q → k ≡ prefixLength q → Grown d 0 out (8 * i) (left q i) (all q)
-          → out′ ≡ putAt out (8 * i) (little 8 (serverSum e n b seeds shares (packedBit (packedPrefix q i)) k)) → Grown d 0 out′ (8 * (i + 1)) (left q (i + 1)) (all q)
+          → out′ ≡ putAt out (8 * i) (little 8 (serverSum e n b seeds shares allCount (bitOf (bitsOf (packedPrefix q i))) k)) → Grown d 0 out′ (8 * (i + 1)) (left q (i + 1)) (all q)
       sums-more out out′ i k h l g f =
           let x : List ℕ = little 8 (sumAt (getD (prefixesOf q) i [])) in
           grown-more d 0 out (8 * i) x (left q (i + 1)) (all q) (rw (left-more i h) at g) all-room out′ (8 * (i + 1))
@@ -71,8 +71,8 @@ module _ (e : Expander) (n : ℕ) (b : Bool) (seeds shares : List ℕ) where
           (omega (arith, little-length 8 (sumAt (getD (prefixesOf q) i []))))
 
       pub sums-two : (out out′ : List ℕ) (i k : ℕ) → i + 1 < prefixCount q → k ≡ prefixLength q → Grown d 0 out (8 * i) (left q i) (all q)
-          → out′ ≡ putAt (putAt out (8 * i) (little 8 (serverSum e n b seeds shares (packedBit (packedPrefix q i)) k)))
-          (8 * (i + 1)) (little 8 (serverSum e n b seeds shares (packedBit (packedPrefix q (i + 1))) k))
+          → out′ ≡ putAt (putAt out (8 * i) (little 8 (serverSum e n b seeds shares allCount (bitOf (bitsOf (packedPrefix q i))) k)))
+          (8 * (i + 1)) (little 8 (serverSum e n b seeds shares allCount (bitOf (bitsOf (packedPrefix q (i + 1)))) k))
           → Grown d 0 out′ (8 * (i + 2)) (left q (i + 2)) (all q)
       sums-two out out′ i k h l g f =
           let next : i + 1 + 1 ≡ i + 2 = omega arith in

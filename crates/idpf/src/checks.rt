@@ -1,5 +1,4 @@
 // The tests of causes 6 and 7 on lent public shares.
-use crate::reader::read_level;
 use crate::reports::report_count;
 use nodes::public_share_length;
 ghost use mathlib.Core.Path.{_≡_};
@@ -10,40 +9,13 @@ ghost use Rattle.group.specs.Modular.{p};
 ghost use Rattle.point.specs.PublicShare.{publicShareLength, payloadsBelow, spareBitsZero};
 ghost use Rattle.idpf.specs.Share.{payloadTooLarge, spareBitsSet};
 
-// Whether the payload corrections of all n levels are below p.
-pub(crate) fn payloads_below(n: u16, share: &[u8]) -> bool
-    ensures { λ r. ⌜ r ≡ payloadsBelow p n (now (share .entry)) ⌝ }
-{
-    let mut k = 0;
-    while k < n {
-        let level = read_level(share, n, k);
-        let word = level.word;
-        if group::P <= word.payload {
-            return false;
-        }
-        k = level.after;
-    }
-    true
-}
-
-// Whether the spare bits of the last control byte of n levels are zero.
-pub(crate) fn spare_bits_zero(n: u16, share: &[u8]) -> bool
-    ensures { λ r. ⌜ r ≡ spareBitsZero n (now (share .entry)) ⌝ }
-{
-    let m = n as usize;
-    if m % 4 == 0 {
-        return true;
-    }
-    numbers::byte_at(share, m / 4) >> (2 * (m % 4)) == 0
-}
-
 // The payload test of the public share that starts at place `at`.
 fn payloads_below_at(n: u16, shares: &[u8], at: usize) -> bool
     requires { ⌜ at + publicShareLength n ≤ length (now shares) ⌝ }
     ensures { λ r. ⌜ r ≡ payloadsBelow p n (take (publicShareLength n) (drop at (now (shares .entry)))) ⌝ }
 {
     let end = at + public_share_length(n);
-    payloads_below(n, &shares[at..end])
+    walk::payloads_below(n, &shares[at..end])
 }
 
 // The spare bits test of the public share that starts at place `at`.
@@ -52,7 +24,7 @@ fn spare_bits_zero_at(n: u16, shares: &[u8], at: usize) -> bool
     ensures { λ r. ⌜ r ≡ spareBitsZero n (take (publicShareLength n) (drop at (now (shares .entry)))) ⌝ }
 {
     let end = at + public_share_length(n);
-    spare_bits_zero(n, &shares[at..end])
+    walk::spare_bits_zero(n, &shares[at..end])
 }
 
 // Whether all payload corrections of every lent public share are below p.

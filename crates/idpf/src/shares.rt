@@ -1,8 +1,8 @@
 // The call `share`: a server's share for a query.
 use crate::checks::all_payloads_below;
 use crate::checks::all_spare_bits_zero;
-use crate::pairs::server_sums;
 use crate::reports::server_sum;
+use crate::reports::server_sums;
 use calls::Reply;
 use expander::Choice;
 use expander::Expander;
@@ -13,12 +13,14 @@ ghost use mathlib.Core.List.{[]};
 ghost use Prim.Native.Nat.{_+_, _*_, _≤_, _<_};
 ghost use lib.ListN.{length};
 ghost use Rattle.numbers.specs.Numbers.{little};
-ghost use Rattle.numbers.specs.Places.{putAt, overlay};
-ghost use Rattle.calls.specs.Causes.{judged};
+ghost use Rattle.places.specs.Places.{putAt, overlay};
+ghost use Rattle.bits.specs.Packing.{bitsOf};
+ghost use Rattle.calls.specs.Outcome.{judged, left};
+ghost use Rattle.point.specs.Share.{bitOf};
 ghost use Rattle.query.specs.Query.{isQuery, prefixCount};
 ghost use Rattle.query.specs.Prefix.{packedPrefix};
-ghost use Rattle.idpf.specs.Reports.{packedBit, serverSum};
-ghost use Rattle.idpf.specs.Share.{wrongLengths, shareCauses, shareBytes, shareOutcome};
+ghost use Rattle.idpf.specs.Reports.{allCount, serverSum};
+ghost use Rattle.idpf.specs.Share.{wrongLengths, shareCauses, shareBytes, shareExit};
 
 // Whether the seeds or the public shares have the wrong length, or disagree in count.
 pub fn wrong_lengths(n: u16, seeds: &[u8], shares: &[u8]) -> bool
@@ -44,10 +46,7 @@ pub fn wrong_lengths(n: u16, seeds: &[u8], shares: &[u8]) -> bool
 fn share_cause(n: u64, expander: u64, seeds: &[u8], shares: &[u8], query: &[u8], room: usize) -> u64
     ensures { λ r. ⌜ r ≡ judged (shareCauses n expander (now (seeds .entry)) (now (shares .entry)) (now (query .entry)) room) [] .number ⌝ }
 {
-    if n < 1 {
-        return 1;
-    }
-    if 256 < n {
+    if calls::length_outside(n) {
         return 1;
     }
     if !expander::is_expander(expander) {
@@ -57,7 +56,7 @@ fn share_cause(n: u64, expander: u64, seeds: &[u8], shares: &[u8], query: &[u8],
     if wrong_lengths(levels, seeds, shares) {
         return 4;
     }
-    if 65535 < seeds.len() / 16 {
+    if calls::too_many_reports(seeds.len() / 16) {
         return 5;
     }
     let payloads = all_payloads_below(levels, seeds, shares);
@@ -90,9 +89,19 @@ fn write_sum(
     out: &mut [u8],
 )
     requires { ⌜ i < 4294967296 ⌝ }
-    ensures { λ _. ⌜ now (out .exit) ≡ putAt (now (out .entry)) (8 * i) (little 8 (serverSum e n server (now (seeds .entry)) (now (shares .entry)) (packedBit (packedPrefix (now (query .entry)) i)) k)) ⌝ }
+    ensures { λ _. ⌜ now (out .exit) ≡ putAt (now (out .entry)) (8 * i)
+        (little 8 (serverSum e n server (now (seeds .entry)) (now (shares .entry)) allCount (bitOf (bitsOf (packedPrefix (now (query .entry)) i))) k)) ⌝ }
 {
-    let sum = server_sum(e, n, server, seeds, shares, query::prefix_at(query, i), k);
+    let sum = server_sum(
+        e,
+        n,
+        server,
+        seeds,
+        shares,
+        &seeds[..0],
+        query::prefix_at(query, i),
+        k,
+    );
     numbers::write_le8(out, 8 * i, sum);
 }
 
@@ -109,12 +118,15 @@ fn write_sum_pair(
     out: &mut [u8],
 )
     requires { ⌜ i < 4294967296 ⌝ }
-    ensures { λ _. ⌜ now (out .exit) ≡ putAt (putAt (now (out .entry)) (8 * i) (little 8 (serverSum e n server (now (seeds .entry)) (now (shares .entry)) (packedBit (packedPrefix (now (query .entry)) i)) k))) (8 * (i + 1)) (little 8 (serverSum e n server (now (seeds .entry)) (now (shares .entry)) (packedBit (packedPrefix (now (query .entry)) (i + 1))) k)) ⌝ }
+    ensures { λ _. ⌜ now (out .exit) ≡ putAt (putAt (now (out .entry)) (8 * i)
+        (little 8 (serverSum e n server (now (seeds .entry)) (now (shares .entry)) allCount (bitOf (bitsOf (packedPrefix (now (query .entry)) i))) k)))
+        (8 * (i + 1))
+        (little 8 (serverSum e n server (now (seeds .entry)) (now (shares .entry)) allCount (bitOf (bitsOf (packedPrefix (now (query .entry)) (i + 1)))) k)) ⌝ }
 {
     let next = i + 1;
     let first = query::prefix_at(query, i);
     let second = query::prefix_at(query, next);
-    let sums = server_sums(e, n, server, seeds, shares, first, second, k);
+    let sums = server_sums(e, n, server, seeds, shares, &seeds[..0], first, second, k);
     numbers::write_le8(out, 8 * i, sums.first);
     numbers::write_le8(out, 8 * next, sums.second);
 }
@@ -155,9 +167,8 @@ pub fn share(
     query: &[u8],
     out: &mut [u8],
 ) -> Reply
-    ensures number { λ r. ⌜ r .number ≡ shareOutcome n expander server (now (seeds .entry)) (now («public_shares» .entry)) (now (query .entry)) (length (now (out .entry))) .number ⌝ }
-    ensures written { λ r. ⌜ r .length ≡ length (shareOutcome n expander server (now (seeds .entry)) (now («public_shares» .entry)) (now (query .entry)) (length (now (out .entry))) .written) ⌝ }
-    ensures space { λ r. ⌜ now (out .exit) ≡ overlay (shareOutcome n expander server (now (seeds .entry)) (now («public_shares» .entry)) (now (query .entry)) (length (now (out .entry))) .written) (now (out .entry)) ⌝ }
+    ensures { λ r. ⌜ left r (now (out .exit)) ≡ shareExit n expander server (now (seeds .entry)) (now («public_shares» .entry)) (now (query .entry))
+        (now (out .entry)) ⌝ }
 {
     let number = share_cause(n, expander, seeds, public_shares, query, out.len());
     if number != 0 {

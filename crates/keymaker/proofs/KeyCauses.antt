@@ -1,18 +1,19 @@
--- The outcome of `make_key`: its number cause by cause, and what follows from 0. Assumes nothing.
+-- The outcome of `make_key`: what a refusal writes, and what follows from 0. Assumes nothing.
 use mathlib.Core.Path.{_≡_, ap, _∙_}
-use mathlib.Core.Bool.{Bool, true, not, _||_}
-use mathlib.Core.List.{List, [], _∷_}
+use mathlib.Core.Bool.{true, not}
+use mathlib.Core.List.{List, []}
 use mathlib.Core.Logic.{_≢_}
 use Prim.Native.Nat.{ℕ, _≤_}
 use native.Mathlib.Omega.{arith}
 use borrow.Author.Tests.{eqb-true, ltb-false, not-false}
 use lib.ListN.{length}
-use lib.Dec.{eqb, ltb}
+use lib.Dec.{eqb}
 use Rattle.bits.specs.Packing.{packedLength, spareZero}
-use Rattle.calls.specs.Bounds.{lengthOutside}
-use Rattle.calls.specs.Causes.{cause, judged, accepted}
-use Rattle.calls.proofs.Decisions.{neither, in-bounds}
-use Rattle.calls.proofs.Judged.{judged-number, judged-refused, judged-accepted, judged-clear}
+use Rattle.calls.specs.Bounds.{mostBits}
+use Rattle.calls.specs.Causes.{numberDue}
+use Rattle.calls.specs.Outcome.{accepted}
+use Rattle.calls.proofs.Decisions.{neither, bounds}
+use Rattle.calls.proofs.Judged.{judged-due, judged-refused, judged-accepted, judged-clear}
 use Rattle.expander.specs.Expander.{choiceOf, isExpander, under}
 use Rattle.expander.specs.declared.Expander.{Expander}
 use Rattle.expander.specs.declared.Choice.{Choice}
@@ -21,23 +22,13 @@ use Rattle.point.specs.PublicShare.{publicShareLength}
 use Rattle.keymaker.specs.Key.{keyCauses, keyBytes, keyOutcome}
 
 module _ (n e : ℕ) (string seed0 seed1 : List ℕ) (room : ℕ) where
-  abbrev wrong : Bool
-  wrong = not (eqb (length string) (packedLength n)) || (not (eqb (length seed0) 16) || not (eqb (length seed1) 16))
-
   -- what is written where none applies
   abbrev bytes : List ℕ
   bytes = under (choiceOf e) (keyBytes n string seed0 seed1)
 
-  pub cause-1 : lengthOutside n ≡ true → 1 ≡ keyOutcome n e string seed0 seed1 room .number
+  pub due-number : keyOutcome n e string seed0 seed1 room .number ≡ numberDue (keyCauses n e string seed0 seed1 room)
   unfolding keyOutcome
-  cause-1 h = rw h
-
-  pub other-cause : 1 ≤ n → n ≤ 256 → {x y z w : Bool} → x ≡ not (isExpander e) → y ≡ wrong → z ≡ not (spareZero n string) → w ≡ ltb room (publicShareLength n)
-      → judged (cause 3 x ∷ cause 4 y ∷ cause 7 z ∷ cause 11 w ∷ []) [] .number ≡ keyOutcome n e string seed0 seed1 room .number
-  unfolding keyOutcome
-  other-cause l h {x} {y} {z} {w} ex ey ez ew =
-      rw (in-bounds 256 n l h, ex, ey, ez, ew)
-      (judged-number (cause 3 (not (isExpander e)) ∷ cause 4 wrong ∷ cause 7 (not (spareZero n string)) ∷ cause 11 (ltb room (publicShareLength n)) ∷ []) [] bytes)
+  due-number = judged-due (keyCauses n e string seed0 seed1 room) bytes
 
   pub nothing-written : keyOutcome n e string seed0 seed1 room .number ≢ 0 → keyOutcome n e string seed0 seed1 room .written ≡ []
   unfolding keyOutcome
@@ -59,12 +50,12 @@ module _ (n e : ℕ) (string seed0 seed1 : List ℕ) (room : ℕ) where
   unfolding keyOutcome
   ready h =
       let t = judged-clear (keyCauses n e string seed0 seed1 room) bytes (omega arith, (omega arith, (omega arith, (omega arith, (omega arith, tt))))) h in
-      let bounds = neither (ltb n 1) (ltb 256 n) (t .0) in
+      let inside = bounds mostBits n (t .0) in
       let lengths = neither (not (eqb (length string) (packedLength n))) _ (t .1 .1 .0) in
       let seeds = neither (not (eqb (length seed0) 16)) (not (eqb (length seed1) 16)) (lengths .1) in
       record {
-        some = ltb-false n 1 (bounds .0);
-        few = ltb-false 256 n (bounds .1);
+        some = inside .0;
+        few = inside .1;
         expander = not-false (isExpander e) (t .1 .0);
         string-length = eqb-true _ _ (not-false _ (lengths .0));
         seed0-length = eqb-true _ _ (not-false _ (seeds .0));

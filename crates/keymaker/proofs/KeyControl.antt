@@ -5,7 +5,7 @@ use Prim.Native.Nat.{ℕ, zero, suc, _+_, _*_, _/_, _%_, _^_, _<_, _≤_}
 use native.Mathlib.Nat.{mod-lt, mul-le-mul-right, pow-succ', mul-left-comm}
 use native.Mathlib.Omega.{arith}
 use borrow.Author.Tests.{lt-ltb, le-ltb}
-use Rattle.numbers.specs.Lists.{digit}
+use Rattle.places.specs.Lists.{digit}
 use Rattle.point.specs.Correction.{Correction}
 use Rattle.point.specs.PublicShare.{lowestFirst, levelBit, controlByte}
 use Rattle.point.proofs.Joined.{lowestFirst-below}

@@ -7,10 +7,9 @@ use native.Mathlib.Numerals.{add-one}
 use native.Mathlib.Omega.{arith}
 use lib.ListN.{length, getD, set}
 use lib.Seq.{getD-take}
-use Rattle.numbers.specs.Lists.{digit}
-use Rattle.numbers.specs.Numbers.{Bytes}
+use Rattle.places.specs.Lists.{digit}
+use Rattle.places.specs.Places.{Bytes, putAt, overlay}
 use Rattle.bits.specs.Packing.{bitsOf, unpack}
-use Rattle.numbers.specs.Places.{putAt, overlay}
 use Rattle.expander.specs.declared.Expander.{Expander}
 use Rattle.point.specs.Node.{Node, final}
 use Rattle.point.specs.Correction.{Correction}

@@ -5,45 +5,44 @@ use mathlib.Core.List.{List}
 use Prim.Native.Nat.{ℕ, _<_}
 use native.Mathlib.Omega.{arith}
 use lib.ListN.{length, getD}
-use lib.Dec.{eqb, ltb, ltb→lt, lt→ltb}
-use Rattle.numbers.specs.Numbers.{Bytes}
+use lib.Dec.{eqb}
+use Rattle.places.specs.Places.{Bytes}
 use Rattle.bits.specs.Packing.{packedLength, unpack, spareZero}
 use Rattle.bits.proofs.Packed.{unpack-length}
 use Rattle.bits.proofs.Spare.{spare-set}
-use Rattle.calls.specs.Bounds.{lengthOutside}
-use Rattle.calls.specs.Clauses.{Due}
-use Rattle.calls.proofs.Decisions.{failed, failed-test, differ, differ-test, either, either-test, beyond, beyond-test}
-use Rattle.calls.proofs.Judged.{due, none, next}
-use Rattle.expander.specs.Expander.{choiceOf, isExpander}
+use Rattle.calls.specs.Causes.{Due}
+use Rattle.calls.proofs.Decisions.{failed, failed-test, differ, differ-test, either, either-test}
+use Rattle.calls.proofs.Judged.{due, none, next, length-decided, expander-decided, space-decided}
+use Rattle.expander.specs.Expander.{choiceOf}
 use Rattle.expander.specs.declared.Expander.{Expander}
 use Rattle.expander.specs.declared.Choice.{Choice}
 use Rattle.expander.specs.declared.Choice.the-variants.{Known, Unknown}
-use Rattle.expander.proofs.Chosen.{unknown, unnamed, unnamed-test}
+use Rattle.expander.proofs.Chosen.{unknown}
 use Rattle.group.specs.Modular.{p}
 use Rattle.point.specs.PublicShare.{publicShareLength, payloadsBelow, spareBitsZero}
 use Rattle.point.specs.Totals.{Report, Made, reportCorrection, reportPublicShare}
 use Rattle.point.specs.Instance.{scheme}
 use Rattle.point.proofs.Honest.{report-bytes, report-passes}
 use Rattle.point.proofs.Instance.{scheme-lawful, p-fits}
-use Rattle.keymaker.specs.Key.{keyClauses, keyBytes, keyOutcome}
+use Rattle.keymaker.specs.Key.{keyCauses, keyBytes, keyOutcome}
 use Rattle.keymaker.proofs.KeyCauses.{Ready, ready, key-accepted}
 
 -- ---- the number is due
 
 pub key-due : (n e : ℕ) (string seed0 seed1 : List ℕ) (room : ℕ)
-    → Due (keyClauses n e string seed0 seed1 room) (keyOutcome n e string seed0 seed1 room .number)
+    → Due (keyCauses n e string seed0 seed1 room) (keyOutcome n e string seed0 seed1 room .number)
 unfolding keyOutcome
 key-due n e string seed0 seed1 room =
     due
-    (next {b = lengthOutside n} (beyond 256 n) (beyond-test 256 n)
-    (next {b = not (isExpander e)} (unnamed e) (unnamed-test e)
+    (length-decided n
+    (expander-decided e
     (next {b = a || (b || c)}
     (either a (b || c) (differ (length string) (packedLength n)) (either b c (differ (length seed0) 16) (differ (length seed1) 16)))
     (either-test a (b || c) (differ-test (length string) (packedLength n)) (either-test b c (differ-test (length seed0) 16) (differ-test (length seed1) 16)))
     (next {b = not (spareZero n string)}
     (λ t. spare-set n string .0 (failed (spareZero n string) t))
     (λ h. failed-test (spare-set n string .1 h))
-    (next {b = ltb room (publicShareLength n)} (ltb→lt room (publicShareLength n)) (lt→ltb room (publicShareLength n)) none)))))
+    (space-decided (publicShareLength n) room none)))))
     _
   where
     a : Bool

@@ -7,11 +7,11 @@ use native.Mathlib.Omega.{arith}
 use native.Mathlib.Decide.{decLt}
 use lib.ListN.{length, getD, set, take, drop, length-append, length-drop, length-set, take-append-drop, List·getD-append}
 use lib.Seq.{drop-cons, drop-at, drop-drop, drop-append-le, drop-set-lt, take-add, length-take-le, getD-take, getD-set-same, getD-set-other}
-use Rattle.numbers.specs.Lists.{digit}
-use Rattle.numbers.specs.Numbers.{Bytes, little}
-use Rattle.numbers.specs.Places.{putAt, overlay}
+use Rattle.places.specs.Lists.{digit}
+use Rattle.places.specs.Places.{Bytes, putAt, overlay}
+use Rattle.numbers.specs.Numbers.{little}
 use Rattle.numbers.proofs.Endian.{little-length}
-use Rattle.numbers.proofs.Places.{putAt-inside, putAt-length, putAt-nil, putAt-more, putAt-overlay}
+use Rattle.places.proofs.Places.{putAt-inside, putAt-length, putAt-nil, putAt-more, putAt-overlay}
 use Rattle.point.specs.Correction.{Correction}
 use Rattle.point.specs.PublicShare.{joined, controlBytes, controlByte, levelBytes, levelStart, publicShare, publicShareLength}
 use Rattle.point.proofs.Joined.{joined-length, joined-pieces}

@@ -1,16 +1,16 @@
 -- The call `make_key`: document 01, 'Keys and nodes' and 'Public share'. Assumes nothing.
-use Prim.Native.Nat.{ℕ, _≤_, _<_}
+use Prim.Native.Nat.{ℕ, _≤_}
 use mathlib.Core.Path.{_≡_}
 use mathlib.Core.Bool.{true, false, not, _||_}
 use mathlib.Core.List.{List, [], _∷_}
 use mathlib.Core.Logic.{_≢_, _⊎_}
 use lib.ListN.{length, getD}
-use lib.Dec.{eqb, ltb}
+use lib.Dec.{eqb}
 use Rattle.bits.specs.Packing.{packedLength, bitsOf, unpack, spareZero}
-use Rattle.calls.specs.Bounds.{LengthOutside, lengthOutside}
-use Rattle.calls.specs.Causes.{Cause, cause, Outcome, judged}
-use Rattle.calls.specs.Clauses.{Clause, clause}
-use Rattle.expander.specs.Expander.{choiceOf, isExpander, under}
+use Rattle.calls.specs.Bounds.{lengthCause, expanderCause, spaceCause}
+use Rattle.calls.specs.Causes.{Cause, cause}
+use Rattle.calls.specs.Outcome.{Outcome, judged, Exit, exit}
+use Rattle.expander.specs.Expander.{choiceOf, under}
 use Rattle.expander.specs.declared.Expander.{Expander}
 use Rattle.point.specs.Keys.{keyCorrection}
 use Rattle.point.specs.Share.{bitOf}
@@ -21,25 +21,16 @@ use Rattle.point.specs.Instance.{scheme}
 abbrev pub SpareBitSet : ℕ → List ℕ → Type 0
 SpareBitSet n string = (i : ℕ) × (n ≤ i) × (getD (bitsOf string) i false ≡ true)
 
--- the causes in words: n outside its bounds; the expander not 1 or 2; the string or a seed of the wrong length; a spare bit set in the string;
--- the public share would not fit
-abbrev pub keyClauses : ℕ → ℕ → List ℕ → List ℕ → List ℕ → ℕ → List Clause
-keyClauses n e string seed0 seed1 room =
-    clause 1 (LengthOutside n)
-    ∷ clause 3 ((e ≢ 1) × (e ≢ 2))
-    ∷ clause 4 ((length string ≢ packedLength n) ⊎ (length seed0 ≢ 16) ⊎ (length seed1 ≢ 16))
-    ∷ clause 7 (SpareBitSet n string)
-    ∷ clause 11 (room < publicShareLength n)
-    ∷ []
-
--- the same, as they are tested
+-- the causes: n outside its bounds; the expander not 1 or 2; the string or a seed of the wrong length; a spare bit set in the string; the public
+-- share would not fit
 abbrev pub keyCauses : ℕ → ℕ → List ℕ → List ℕ → List ℕ → ℕ → List Cause
 keyCauses n e string seed0 seed1 room =
-    cause 1 (lengthOutside n)
-    ∷ cause 3 (not (isExpander e))
-    ∷ cause 4 (not (eqb (length string) (packedLength n)) || (not (eqb (length seed0) 16) || not (eqb (length seed1) 16)))
-    ∷ cause 7 (not (spareZero n string))
-    ∷ cause 11 (ltb room (publicShareLength n))
+    lengthCause n
+    ∷ expanderCause e
+    ∷ cause 4 ((length string ≢ packedLength n) ⊎ (length seed0 ≢ 16) ⊎ (length seed1 ≢ 16))
+    (not (eqb (length string) (packedLength n)) || (not (eqb (length seed0) 16) || not (eqb (length seed1) 16)))
+    ∷ cause 7 (SpareBitSet n string) (not (spareZero n string))
+    ∷ spaceCause (publicShareLength n) room
     ∷ []
 
 -- the public share of the string with the weight 1
@@ -49,3 +40,7 @@ keyBytes n string seed0 seed1 e = publicShare n (keyCorrection (scheme e) 1 (bit
 -- the outcome
 unfoldable pub keyOutcome : ℕ → ℕ → List ℕ → List ℕ → List ℕ → ℕ → Outcome
 keyOutcome n e string seed0 seed1 room = judged (keyCauses n e string seed0 seed1 room) (under (choiceOf e) (keyBytes n string seed0 seed1))
+
+-- what the call returns, and the space that it is lent, at exit
+abbrev pub keyExit : ℕ → ℕ → List ℕ → List ℕ → List ℕ → List ℕ → Exit
+keyExit n e string seed0 seed1 space = exit (keyOutcome n e string seed0 seed1 (length space)) space

@@ -87,8 +87,11 @@ fn keep(a: bool, on: bool, seed: [u8; 16], left: bool, right: bool, both: Childr
 
 // The seed and bit corrections of a level, and the kept children with them.
 fn kept_children(e: Expander, a: bool, nodes: Nodes) -> Kept
-    ensures words { λ r. ⌜ (r .seed ≡ seedCorrection (scheme e) a (nodeOf (nodes .node0)) (nodeOf (nodes .node1))) × (r .left ≡ leftCorrection (scheme e) a (nodeOf (nodes .node0)) (nodeOf (nodes .node1))) × (r .right ≡ rightCorrection (scheme e) a (nodeOf (nodes .node0)) (nodeOf (nodes .node1))) ⌝ }
-    ensures kept { λ r. ⌜ (nodeOf (r .kept0) ≡ keptChild (scheme e) a (nodeOf (nodes .node0)) (nodeOf (nodes .node1)) (nodeOf (nodes .node0))) × (nodeOf (r .kept1) ≡ keptChild (scheme e) a (nodeOf (nodes .node0)) (nodeOf (nodes .node1)) (nodeOf (nodes .node1))) ⌝ }
+    ensures words { λ r. ⌜ (r .seed ≡ seedCorrection (scheme e) a (nodeOf (nodes .node0)) (nodeOf (nodes .node1))) ×
+        (r .left ≡ leftCorrection (scheme e) a (nodeOf (nodes .node0)) (nodeOf (nodes .node1))) ×
+        (r .right ≡ rightCorrection (scheme e) a (nodeOf (nodes .node0)) (nodeOf (nodes .node1))) ⌝ }
+    ensures kept { λ r. ⌜ (nodeOf (r .kept0) ≡ keptChild (scheme e) a (nodeOf (nodes .node0)) (nodeOf (nodes .node1)) (nodeOf (nodes .node0))) ×
+        (nodeOf (r .kept1) ≡ keptChild (scheme e) a (nodeOf (nodes .node0)) (nodeOf (nodes .node1)) (nodeOf (nodes .node1))) ⌝ }
 {
     let node0 = nodes.node0;
     let node1 = nodes.node1;
@@ -143,7 +146,9 @@ fn payload_correction(t1: bool, w0: u64, w1: u64) -> u64
 // The level at which the string's bit is a, with the weight 1.
 pub(crate) fn next_level(e: Expander, a: bool, nodes: Nodes) -> Level
     ensures word { λ r. ⌜ correctionOf (r .word) ≡ correction (scheme e) a (nodeOf (nodes .node0)) (nodeOf (nodes .node1)) 1 ⌝ }
-    ensures next { λ r. ⌜ (nodeOf (r .next .node0) ≡ final (scheme e) (keptChild (scheme e) a (nodeOf (nodes .node0)) (nodeOf (nodes .node1)) (nodeOf (nodes .node0)))) × (nodeOf (r .next .node1) ≡ final (scheme e) (keptChild (scheme e) a (nodeOf (nodes .node0)) (nodeOf (nodes .node1)) (nodeOf (nodes .node1)))) ⌝ }
+    ensures next { λ r. ⌜ (nodeOf (r .next .node0) ≡ final (scheme e) (keptChild (scheme e) a (nodeOf (nodes .node0)) (nodeOf (nodes .node1))
+        (nodeOf (nodes .node0)))) × (nodeOf (r .next .node1) ≡ final (scheme e) (keptChild (scheme e) a (nodeOf (nodes .node0)) (nodeOf (nodes .node1))
+        (nodeOf (nodes .node1)))) ⌝ }
 {
     let kept = kept_children(e, a, nodes);
     let kept0 = kept.kept0;

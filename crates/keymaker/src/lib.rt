@@ -13,23 +13,22 @@ use nodes::Correction;
 use nodes::Node;
 use nodes::level_start;
 use nodes::public_share_length;
-use numbers::read16;
 use numbers::write_le8;
-use numbers::write16;
+use places::read16;
+use places::write16;
 ghost use mathlib.Core.Path.{_≡_};
 ghost use mathlib.Core.Bool.{not, _||_};
-ghost use mathlib.Core.List.{[], _∷_};
 ghost use Prim.Native.Nat.{_+_, _*_, _/_, _%_, _^_, _≤_, _<_};
 ghost use lib.ListN.{length, getD, set};
 ghost use lib.Dec.{eqb};
-ghost use Rattle.numbers.specs.Lists.{digit};
-ghost use Rattle.numbers.specs.Numbers.{Bytes};
+ghost use Rattle.places.specs.Lists.{digit};
+ghost use Rattle.places.specs.Places.{Bytes, putAt, overlay};
 ghost use Rattle.bits.specs.Packing.{packedLength};
-ghost use Rattle.numbers.specs.Places.{putAt, overlay};
-ghost use Rattle.calls.specs.Causes.{cause, judged};
+ghost use Rattle.calls.specs.Causes.{numberDue};
+ghost use Rattle.calls.specs.Outcome.{left};
 ghost use Rattle.point.specs.PublicShare.{levelBytes, publicShareLength};
 ghost use Rattle.nodes.specs.Layout.{correctionOf};
-ghost use Rattle.keymaker.specs.Key.{keyBytes, keyOutcome};
+ghost use Rattle.keymaker.specs.Key.{keyCauses, keyBytes, keyExit};
 
 // A bit as a number.
 fn bit(b: bool) -> u64
@@ -57,7 +56,8 @@ fn control_byte(old: u8, k: u16, left: bool, right: bool) -> u8
 // The control bits of level k into their byte.
 fn put_control(out: &mut [u8], k: u16, left: bool, right: bool)
     requires { ⌜ k / 4 < length (now out) ⌝ }
-    ensures { λ _. ⌜ now (out .exit) ≡ set (now (out .entry)) (k / 4) (getD (now (out .entry)) (k / 4) 0 % 2 ^ (2 * (k % 4)) + (digit left + 2 * digit right) * 2 ^ (2 * (k % 4))) ⌝ }
+    ensures { λ _. ⌜ now (out .exit) ≡ set (now (out .entry)) (k / 4) (getD (now (out .entry)) (k / 4) 0 % 2 ^ (2 * (k % 4)) +
+        (digit left + 2 * digit right) * 2 ^ (2 * (k % 4))) ⌝ }
 {
     let j = (k / 4) as usize;
     out[j] = control_byte(out[j], k, left, right);
@@ -103,7 +103,8 @@ fn write_key(e: Expander, n: u16, string: &[u8], seed0: [u8; 16], seed1: [u8; 16
 
 // Whether the string or a seed has the wrong length.
 fn wrong_lengths(n: u16, string: &[u8], seed0: &[u8], seed1: &[u8]) -> bool
-    ensures { λ r. ⌜ r ≡ (not (eqb (length (now (string .entry))) (packedLength n)) || (not (eqb (length (now (seed0 .entry))) 16) || not (eqb (length (now (seed1 .entry))) 16))) ⌝ }
+    ensures { λ r. ⌜ r ≡ (not (eqb (length (now (string .entry))) (packedLength n)) || (not (eqb (length (now (seed0 .entry))) 16) || not
+        (eqb (length (now (seed1 .entry))) 16))) ⌝ }
 {
     if string.len() != packed_length(n as usize) {
         return true;
@@ -114,40 +115,27 @@ fn wrong_lengths(n: u16, string: &[u8], seed0: &[u8], seed1: &[u8]) -> bool
     seed1.len() != 16
 }
 
-// The number of the first cause that applies, of those after 1.
-fn first_cause(unknown: bool, lengths: bool, spare: bool, room: bool) -> u64
-    ensures { λ r. ⌜ r ≡ judged (cause 3 unknown ∷ cause 4 lengths ∷ cause 7 spare ∷ cause 11 room ∷ []) [] .number ⌝ }
+// The number of the first cause that applies, or 0.
+fn key_cause(n: u64, expander: u64, string: &[u8], seed0: &[u8], seed1: &[u8], room: usize) -> u64
+    ensures { λ r. ⌜ r ≡ numberDue (keyCauses n expander (now (string .entry)) (now (seed0 .entry)) (now (seed1 .entry)) room) ⌝ }
 {
-    if unknown {
+    if calls::length_outside(n) {
+        return 1;
+    }
+    if !expander::is_expander(expander) {
         return 3;
     }
-    if lengths {
+    let levels = n as u16;
+    if wrong_lengths(levels, string, seed0, seed1) {
         return 4;
     }
-    if spare {
+    if !spare_zero(string, levels as usize) {
         return 7;
     }
-    if room {
+    if room < public_share_length(levels) {
         return 11;
     }
     0
-}
-
-// The number that `make_key` returns.
-fn key_cause(n: u64, expander: u64, string: &[u8], seed0: &[u8], seed1: &[u8], room: usize) -> u64
-    ensures { λ r. ⌜ r ≡ keyOutcome n expander (now (string .entry)) (now (seed0 .entry)) (now (seed1 .entry)) room .number ⌝ }
-{
-    if n < 1 {
-        return 1;
-    }
-    if 256 < n {
-        return 1;
-    }
-    let levels = n as u16;
-    let unknown = !expander::is_expander(expander);
-    let lengths = wrong_lengths(levels, string, seed0, seed1);
-    let spare = !spare_zero(string, levels as usize);
-    first_cause(unknown, lengths, spare, room < public_share_length(levels))
 }
 
 // Writes the public share of a string of n bits; refuses with 1, 3, 4, 7 or 11.
@@ -159,9 +147,7 @@ pub fn make_key(
     seed1: &[u8],
     out: &mut [u8],
 ) -> Reply
-    ensures number { λ r. ⌜ r .number ≡ keyOutcome n expander (now (string .entry)) (now (seed0 .entry)) (now (seed1 .entry)) (length (now (out .entry))) .number ⌝ }
-    ensures written { λ r. ⌜ r .length ≡ length (keyOutcome n expander (now (string .entry)) (now (seed0 .entry)) (now (seed1 .entry)) (length (now (out .entry))) .written) ⌝ }
-    ensures space { λ r. ⌜ now (out .exit) ≡ overlay (keyOutcome n expander (now (string .entry)) (now (seed0 .entry)) (now (seed1 .entry)) (length (now (out .entry))) .written) (now (out .entry)) ⌝ }
+    ensures { λ r. ⌜ left r (now (out .exit)) ≡ keyExit n expander (now (string .entry)) (now (seed0 .entry)) (now (seed1 .entry)) (now (out .entry)) ⌝ }
 {
     let number = key_cause(n, expander, string, seed0, seed1, out.len());
     if number != 0 {

@@ -11,7 +11,7 @@ use Rattle.expander.specs.declared.Expander.{Expander}
 use Rattle.point.specs.Node.{Node, controlBit, cleared, child}
 use Rattle.point.specs.Correction.{corrected}
 use Rattle.point.specs.Instance.{fieldScheme, scheme}
-use Rattle.numbers.specs.Lists.{digit}
+use Rattle.places.specs.Lists.{digit}
 
 pub cleared-set : (b : List ℕ) → set b 0 (getD b 0 0 - getD b 0 0 % 2) ≡ cleared b
 unfolding cleared

@@ -2,22 +2,15 @@
 use mathlib.Core.Path.{_≡_, refl, sym, ap, _∙_}
 use Prim.Native.Nat.{ℕ, zero, suc, _+_, _*_, _/_, _%_, _^_, _≤_, _<_}
 use native.Mathlib.Nat.{mod-eq-of-lt, mul-add-div-right, mul-add-mod-self-right, div-eq-of-lt, div-one, div-div-eq-div-mul}
-use native.Mathlib.Nat.{zero-add, add-zero, suc-add, add-mul, mul-assoc, mul-comm, mul-le-mul-right, suc-inj, one-le-pow, pow-succ'}
+use native.Mathlib.Nat.{zero-add, add-zero, suc-add, add-mul, mul-assoc, mul-comm, mul-le-mul-right, one-le-pow, pow-succ'}
 use native.Mathlib.Omega.{arith}
 use mathlib.Core.List.{List, [], _∷_, _++_}
 use lib.ListN.{length, getD, length-append}
 use lib.Pow.{pow-add}
 use lib.Arith.{mod-mul}
-use Rattle.numbers.specs.Numbers.{Bytes, little, fromLittle, big, fromBig}
-
--- one byte and those that follow it
-pub bytes-tail : {n b : ℕ} {s : List ℕ} → Bytes (suc n) (b ∷ s) → Bytes n s
-bytes-tail w = record { size = suc-inj (w .size); byte = λ i. w .byte (suc i) }
-
-pub bytes-head : {n b : ℕ} {s : List ℕ} → Bytes n (b ∷ s) → b < 256
-bytes-head w = w .byte 0
-
--- ---- least significant first
+use Rattle.places.specs.Places.{Bytes}
+use Rattle.places.proofs.Places.{bytes-tail, bytes-head}
+use Rattle.numbers.specs.Numbers.{little, fromLittle, big, fromBig}
 
 pub little-length : (n x : ℕ) → length (little n x) ≡ n
 unfolding little
@@ -32,13 +25,6 @@ little-byte (suc n) x (suc i) = little-byte n (x / 256) i
 
 pub little-bytes : (n x : ℕ) → Bytes n (little n x)
 little-bytes n x = record { size = little-length n x; byte = little-byte n x }
-
-pub fromLittle-below : (n : ℕ) (s : List ℕ) → Bytes n s → fromLittle s < 256 ^ n
-unfolding fromLittle
-fromLittle-below zero [] w = omega arith
-fromLittle-below zero (b ∷ s) w = absurd (omega (arith, w .size))
-fromLittle-below (suc n) [] w = absurd (omega (arith, w .size))
-fromLittle-below (suc n) (b ∷ s) w = omega (arith, fromLittle-below n s (bytes-tail w), bytes-head w)
 
 pub fromLittle-little : (n x : ℕ) → x < 256 ^ n → fromLittle (little n x) ≡ x
 unfolding little fromLittle
@@ -75,15 +61,6 @@ pub big-length : (n x : ℕ) → length (big n x) ≡ n
 unfolding big
 big-length zero x = refl
 big-length (suc n) x = ap suc (big-length n x)
-
-pub big-byte : (n x i : ℕ) → getD (big n x) i 0 < 256
-unfolding big
-big-byte zero x i = omega arith
-big-byte (suc n) x zero = omega arith
-big-byte (suc n) x (suc i) = big-byte n x i
-
-pub big-bytes : (n x : ℕ) → Bytes n (big n x)
-big-bytes n x = record { size = big-length n x; byte = big-byte n x }
 
 power-pos : (n : ℕ) → 0 < 256 ^ n
 power-pos n = one-le-pow n 256 (omega arith)
@@ -126,9 +103,6 @@ big-fromBig (suc n) (b ∷ s) w =
     let f : fromBig s < 256 ^ n = fromBig-below n s (bytes-tail w) in
     rw (e, mul-add-div-right (power-pos n) b (fromBig s), div-eq-of-lt f, add-zero b, mod-eq-of-lt (bytes-head w), big-cut n b (fromBig s))
     (ap (λ (l : List ℕ). b ∷ l) (big-fromBig n s (bytes-tail w)))
-
-pub big-injective : (n x y : ℕ) → x < 256 ^ n → y < 256 ^ n → big n x ≡ big n y → x ≡ y
-big-injective n x y h k e = sym (fromBig-big n x h) ∙ ap fromBig e ∙ fromBig-big n y k
 
 pub fromBig-append : (s t : List ℕ) → fromBig (s ++ t) ≡ fromBig s * 256 ^ length t + fromBig t
 unfolding fromBig

@@ -3,25 +3,14 @@ use mathlib.Core.Path.{_≡_, refl, sym, ap, _∙_}
 use Prim.Native.Nat.{ℕ, zero, suc, _+_, _*_, _/_, _^_, _≤_, _<_}
 use native.Mathlib.Nat.{mul-comm}
 use native.Mathlib.Omega.{arith}
-use mathlib.Core.Bool.{Bool, true, false, not}
+use mathlib.Core.Bool.{not}
 use mathlib.Core.List.{List, [], _∷_, _++_}
 use lib.ListN.{length, getD, take, drop, set, replicate}
 use lib.Seq.{drop-cons, sets, sets-eq}
-use lib.Dec.{leb}
-use borrow.Author.Tests.{leb-true, leb-false, not-true, not-false}
 use Rattle.numbers.specs.Numbers.{little, fromLittle, big, fromBig}
-use Rattle.numbers.specs.Places.{window, putAt}
-use Rattle.numbers.proofs.Places.{window-inside, window-outside, window-length, window-split, putAt-inside, putAt-more}
+use Rattle.places.specs.Places.{window, putAt}
+use Rattle.places.proofs.Places.{window-inside, window-outside, window-length, window-split, putAt-inside, putAt-more}
 use Rattle.numbers.proofs.Endian.{little-length, little-append, fromLittle-append, big-length, big-append, fromBig-append}
-
--- ---- whether the places lie within
-
-module _ (r : Bool) (at n len : ℕ) (e : r ≡ leb (at + n) len) where
-  pub inside : not r ≡ false → at + n ≤ len
-  inside h = leb-true (at + n) len (sym e ∙ not-false r h)
-
-  pub outside : not r ≡ true → len < at + n
-  outside h = leb-false (at + n) len (sym e ∙ not-true r h)
 
 -- ---- reads
 

@@ -1,13 +1,7 @@
--- Bytes, and numbers as bytes. A byte is a number below 256. Assumes nothing.
-use Prim.Native.Nat.{ℕ, zero, suc, _+_, _*_, _/_, _%_, _^_, _<_}
-use mathlib.Core.Path.{_≡_}
+-- Numbers as bytes. Assumes nothing.
+use Prim.Native.Nat.{ℕ, zero, suc, _+_, _*_, _/_, _%_, _^_}
 use mathlib.Core.List.{List, [], _∷_}
-use lib.ListN.{length, getD}
-
--- s is n bytes
-pub record Bytes (n : ℕ) (s : List ℕ) : Type 0 where
-  pub size : length s ≡ n
-  pub byte : (i : ℕ) → getD s i 0 < 256
+use lib.ListN.{length}
 
 -- x in n bytes, least significant first, kept to as many bits as they have
 unfoldable pub little : ℕ → ℕ → List ℕ

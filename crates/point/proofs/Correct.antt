@@ -5,7 +5,7 @@ use mathlib.Core.Bool.{Bool, true, false, cond, not, xor, Bool·beq, _&&_}
 use mathlib.Core.List.{List}
 use Prim.Native.Nat.{ℕ, zero, suc}
 use lib.ListN.{length}
-use Rattle.numbers.specs.Numbers.{Bytes}
+use Rattle.places.specs.Places.{Bytes}
 use Rattle.group.proofs.Laws.{masked}
 use Rattle.expander.specs.Expander.{xorBytes}
 use Rattle.expander.proofs.Sums.{xorBytes-cancel, xorBytes-cancel′, xorBytes-bytes}
@@ -162,11 +162,6 @@ module _ {A : Type 0} (S : Scheme A) {In : A → Type 0} (L : Lawful A S In) whe
   payload-in : (a : Bool) (n0 n1 : Node) (w : A) → In (payloadCorrection S a n0 n1 w)
   unfolding payloadCorrection
   payload-in a n0 n1 w = either-in In (keptChild S a n0 n1 n1 .bit) _ _ (L .laws .in-neg _) (L .laws .in-add _ _)
-
-  pub share-in : (b : Bool) (c : Correction A) (x : Bool) (n : Node) → In (shareBelow S b c x n)
-  unfolding shareBelow correctedPayload payloadOf
-  share-in b c x n =
-      either-in In b _ _ (L .laws .in-neg _) (either-in In (correctedChild S c x n .bit) _ _ (L .laws .in-add _ _) (L .in-payload _))
 
   -- The weight, the string and the root seeds of a key.
   module _ (w : A) (α : ℕ → Bool) (s0 s1 : List ℕ) (h0 : Bytes 16 s0) (h1 : Bytes 16 s1) where

@@ -6,7 +6,7 @@ use Prim.Native.Nat.{ℕ, _+_, _%_, _≤_, _<_}
 use native.Mathlib.Nat.{mod-eq-of-lt, zero-mod, add-mod}
 use native.Mathlib.Omega.{arith}
 use lib.ListN.{length}
-use Rattle.numbers.specs.Lists.{All, digit}
+use Rattle.places.specs.Lists.{All, digit}
 use Rattle.bits.specs.Strings.{Bits, isPrefix, count}
 use Rattle.group.specs.Modular.{modular}
 use Rattle.point.specs.Scheme.{Scheme, Lawful}

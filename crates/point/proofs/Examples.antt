@@ -6,7 +6,7 @@ use mathlib.Core.List.{List, [], _∷_, _++_}
 use Prim.Native.Nat.{ℕ, _+_, _-_, _*_, _/_, _^_}
 use lib.ListN.{replicate}
 use Rattle.numbers.specs.Numbers.{little, fromLittle}
-use Rattle.numbers.specs.Places.{window}
+use Rattle.places.specs.Places.{window}
 use Rattle.bits.specs.Strings.{Bits}
 use Rattle.group.specs.Modular.{p}
 use Rattle.expander.specs.Expander.{classroomBlock, xorBytes}

@@ -5,7 +5,7 @@ use mathlib.Core.Bool.{Bool, true}
 use Prim.Native.Nat.{ℕ, _^_, _<_, _≤_}
 use native.Mathlib.Omega.{arith}
 use lib.ListN.{length}
-use Rattle.numbers.specs.Numbers.{Bytes}
+use Rattle.places.specs.Places.{Bytes}
 use Rattle.bits.specs.Strings.{Bits}
 use Rattle.point.specs.Scheme.{Scheme, Lawful}
 use Rattle.point.specs.Share.{bitOf, shareAt}

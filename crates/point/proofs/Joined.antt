@@ -11,7 +11,7 @@ use lib.Seq.{drop-at, take-append-le, drop-append-le, take-all, take-add, getD-d
 use lib.Pow.{pow-pos, pow-add}
 use lib.Dec.{eqb}
 use borrow.Author.Tests.{eq-eqb, ne-eqb}
-use Rattle.numbers.specs.Lists.{digit}
+use Rattle.places.specs.Lists.{digit}
 use Rattle.point.specs.PublicShare.{joined, lowestFirst, binaryDigit, every}
 
 -- ---- pieces of one length w, joined

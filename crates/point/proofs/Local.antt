@@ -10,7 +10,7 @@ use lib.Seq.{getD-append-seam}
 use Rattle.bits.specs.Strings.{Bits, _▹_}
 use Rattle.point.specs.Scheme.{Scheme}
 use Rattle.point.specs.Correction.{Correction}
-use Rattle.point.specs.Share.{bitOf, descend, shareBelow, node, share, nodeAt, shareAt}
+use Rattle.point.specs.Share.{bitOf, descend, node, share, nodeAt}
 
 -- f and g agree below k
 abbrev pub Below : {X : Type 0} → ℕ → (ℕ → X) → (ℕ → X) → Type 0
@@ -38,7 +38,3 @@ module _ {A : Type 0} (S : Scheme A) (c : ℕ → Correction A) (s : List ℕ) (
   pub node-step : nodeAt S c s b (q ▹ x) ≡ descend S (c (length q)) x (nodeAt S c s b q)
   unfolding node
   node-step = rw (length-append q (x ∷ []), add-one) (ap₂ (descend S (c (length q))) (getD-append-seam q x [] false) node-before)
-
-  pub share-step : shareAt S c s b (q ▹ x) ≡ shareBelow S b (c (length q)) x (nodeAt S c s b q)
-  unfolding share
-  share-step = rw (length-append q (x ∷ []), add-one) (ap₂ (shareBelow S b (c (length q))) (getD-append-seam q x [] false) node-before)

@@ -6,7 +6,7 @@ use Prim.Native.Nat.{ℕ, zero, suc, _≤_, _<_}
 use native.Mathlib.Nat.{le-of-suc-le-suc, not-suc-le-zero}
 use native.Mathlib.Omega.{arith}
 use lib.ListN.{length}
-use Rattle.numbers.specs.Numbers.{Bytes}
+use Rattle.places.specs.Places.{Bytes}
 use Rattle.bits.specs.Strings.{Bits, isPrefix}
 use Rattle.point.specs.Scheme.{Scheme, Lawful}
 use Rattle.point.specs.Keys.{keyCorrection}

@@ -11,10 +11,10 @@ use lib.ListN.{length, getD, take, drop, length-append, length-drop, take-append
 use lib.Seq.{take-at, drop-at, drop-append-add, drop-drop, take-all, drop-cons}
 use lib.Dec.{eqb, ltb}
 use borrow.Author.Tests.{lt-ltb, le-ltb, ltb-true, eq-eqb, ne-eqb, eqb-true, eqb-false}
-use Rattle.numbers.specs.Numbers.{Bytes, little, fromLittle}
-use Rattle.numbers.specs.Places.{window}
+use Rattle.places.specs.Places.{Bytes, window}
+use Rattle.numbers.specs.Numbers.{little, fromLittle}
 use Rattle.numbers.proofs.Endian.{little-length, little-bytes, fromLittle-little, little-fromLittle}
-use Rattle.numbers.proofs.Places.{window-inside, window-split, window-bytes}
+use Rattle.places.proofs.Places.{window-inside, window-split, window-bytes}
 use Rattle.point.specs.Correction.{Correction}
 use Rattle.point.specs.PublicShare.{joined, controlBytes, levelBit, controlByte, levelBytes, publicShare, publicShareLength, binaryDigit, levelStart, readCorrection, payloadsBelow, spareBitsZero, Wellformed}
 use Rattle.point.proofs.Joined.{append-byte, joined-byte, joined-length, joined-at, joined-get, joined-pieces, digit-lowestFirst, lowestFirst-digits, lowestFirst-below, nothing-above, something-above, every-true, every-at}

@@ -3,12 +3,11 @@ use mathlib.Core.Bool.{Bool, true, false}
 use mathlib.Core.List.{List, [], _∷_}
 use Prim.Native.Nat.{ℕ, zero, suc}
 use native.Mathlib.Omega.{arith}
-use Rattle.numbers.specs.Numbers.{Bytes}
+use Rattle.places.specs.Places.{Bytes}
 use Rattle.expander.proofs.Sums.{xorBytes-bytes}
 use Rattle.point.specs.Scheme.{Scheme, Lawful}
 use Rattle.point.specs.Node.{Node, cleared, child, final}
-use Rattle.point.specs.Correction.{Correction, corrected, correctedChild}
-use Rattle.point.specs.Share.{descend}
+use Rattle.point.specs.Correction.{corrected}
 
 cleared-bytes : {n : ℕ} {s : List ℕ} → Bytes n s → Bytes n (cleared s)
 unfolding cleared
@@ -28,7 +27,3 @@ module _ {A : Type 0} (S : Scheme A) {In : A → Type 0} (L : Lawful A S In) whe
   pub final-bytes : (m : Node) → Bytes 16 (m .seed) → Bytes 16 (final S m .seed)
   unfolding final
   final-bytes m h = L .sized _ h 2
-
-  pub descend-bytes : (c : Correction A) (x : Bool) (n : Node) → Bytes 16 (c .seed) → Bytes 16 (n .seed) → Bytes 16 (descend S c x n .seed)
-  unfolding descend correctedChild
-  descend-bytes c x n hc hn = final-bytes (correctedChild S c x n) (corrected-bytes (n .bit) _ _ _ (child-bytes x hn) hc)

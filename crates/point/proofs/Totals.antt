@@ -5,7 +5,7 @@ use mathlib.Core.List.{List, [], _∷_}
 use Prim.Native.Nat.{ℕ, zero, _≤_, _<_}
 use native.Mathlib.Omega.{arith}
 use lib.ListN.{length}
-use Rattle.numbers.specs.Lists.{All, select}
+use Rattle.places.specs.Lists.{All, select}
 use Rattle.bits.specs.Strings.{Bits, isPrefix}
 use Rattle.group.specs.Group.{Group, CommutativeGroup}
 use Rattle.group.proofs.Laws.{interchange}

@@ -4,7 +4,7 @@ use mathlib.Core.Bool.{Bool}
 use mathlib.Core.List.{List, [], _∷_}
 use lib.ListN.{getD}
 use lib.Dec.{eqb}
-use Rattle.numbers.specs.Lists.{digit}
+use Rattle.places.specs.Lists.{digit}
 use Rattle.point.specs.Scheme.{Scheme}
 
 -- A seed and a control bit.

@@ -4,9 +4,9 @@ use mathlib.Core.Bool.{Bool, true, false, cond, _&&_, _||_}
 use mathlib.Core.List.{List, [], _∷_, _++_}
 use lib.ListN.{getD}
 use lib.Dec.{eqb, ltb}
-use Rattle.numbers.specs.Lists.{digit}
-use Rattle.numbers.specs.Numbers.{Bytes, little, fromLittle}
-use Rattle.numbers.specs.Places.{window}
+use Rattle.places.specs.Lists.{digit}
+use Rattle.places.specs.Places.{Bytes, window}
+use Rattle.numbers.specs.Numbers.{little, fromLittle}
 use Rattle.point.specs.Correction.{Correction}
 
 -- ---- writing

@@ -1,7 +1,7 @@
 -- What the point function stands on: any block function, any commutative group, any way to draw a payload. Assumes nothing.
 use Prim.Native.Nat.{ℕ}
 use mathlib.Core.List.{List}
-use Rattle.numbers.specs.Numbers.{Bytes}
+use Rattle.places.specs.Places.{Bytes}
 use Rattle.group.specs.Group.{Group, CommutativeGroup}
 
 -- A scheme: `block s j` is block j of the seed s, `group` is the group of shares, and `payload` draws a payload from all

@@ -4,9 +4,9 @@ use mathlib.Core.Path.{_≡_}
 use mathlib.Core.Bool.{Bool, true, false, cond}
 use mathlib.Core.List.{List, [], _∷_}
 use lib.ListN.{length}
-use Rattle.numbers.specs.Lists.{select}
+use Rattle.places.specs.Lists.{select}
 use Rattle.bits.specs.Strings.{Bits, isPrefix}
-use Rattle.numbers.specs.Numbers.{Bytes}
+use Rattle.places.specs.Places.{Bytes}
 use Rattle.point.specs.Scheme.{Scheme}
 use Rattle.point.specs.Correction.{Correction}
 use Rattle.point.specs.Keys.{keyCorrection}

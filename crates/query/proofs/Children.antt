@@ -6,10 +6,10 @@ use mathlib.Core.Bool.{Bool, true, false, cond}
 use mathlib.Core.List.{List, [], _∷_}
 use mathlib.Core.List.{List·Memᴰ·head as here, List·Memᴰ·tail as there}
 use lib.ListN.{length, length-append}
-use Rattle.numbers.specs.Lists.{_∈_, All, select}
+use Rattle.places.specs.Lists.{_∈_, All, select}
 use Rattle.bits.specs.Strings.{Bits, _▹_, Before, Ascending}
 use Rattle.query.specs.Query.{OfLength, children}
-use Rattle.numbers.proofs.Lists.{all-map, all-select}
+use Rattle.places.proofs.Lists.{all-map, all-select}
 
 pub mem-children : {p : Bits} {ps : List Bits} → p ∈ ps → (b : Bool) → p ▹ b ∈ children ps
 mem-children (here e) false = here (ap (λ p. p ▹ false) e)

@@ -6,7 +6,7 @@ use mathlib.Core.List.{List, [], _∷_}
 use Rattle.bits.specs.Strings.{Bits}
 use Rattle.numbers.specs.Numbers.{big, fromBig}
 use Rattle.bits.specs.Packing.{value, packIn, pack, digits, bitsOf, unpack, spareZero}
-use Rattle.numbers.specs.Places.{window}
+use Rattle.places.specs.Places.{window}
 use Rattle.query.specs.Query.{packs, query, limit, prefixLength, prefixCount, parts, prefixesOf, sparesZero, isAscending, isQuery}
 
 -- opens the definitions that write a query

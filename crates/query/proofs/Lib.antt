@@ -4,5 +4,5 @@ pub mod Parts
 pub mod Place
 pub mod Check
 pub mod Ready
-pub mod Child
+pub mod Pieces
 pub mod Examples

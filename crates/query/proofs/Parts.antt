@@ -7,11 +7,11 @@ use mathlib.Core.Bool.{Bool, true, false, _&&_}
 use mathlib.Core.List.{List, _∷_, map}
 use lib.ListN.{length, getD, take, drop}
 use lib.Seq.{drop-drop}
-use Rattle.numbers.specs.Numbers.{Bytes}
+use Rattle.places.specs.Places.{Bytes}
 use Rattle.bits.specs.Packing.{packedLength, unpack, spareZero, bytesBefore}
-use Rattle.numbers.proofs.Places.{window-inside, window-bytes}
+use Rattle.places.proofs.Places.{window-inside, window-bytes}
 use Rattle.query.specs.Query.{parts, sparesZero, isAscending}
-use Rattle.numbers.proofs.Lists.{and-left, and-right}
+use Rattle.places.proofs.Lists.{and-left, and-right}
 use Rattle.query.proofs.Queries.{before-unpack}
 
 -- m parts are one and m - 1

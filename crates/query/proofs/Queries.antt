@@ -11,15 +11,15 @@ use lib.ListN.{length, getD, take, drop, length-append, length-drop, length-map,
 use lib.Seq.{take-at, drop-at, drop-drop, getD-drop, length-take-le}
 use lib.Dec.{T, leb, eqb}
 use Rattle.bits.specs.Strings.{Bits, isBefore, Before, Ascending}
-use Rattle.numbers.specs.Numbers.{Bytes, big, fromBig}
+use Rattle.places.specs.Places.{Bytes, window}
+use Rattle.numbers.specs.Numbers.{big, fromBig}
 use Rattle.bits.specs.Packing.{packedLength, pack, unpack, spareZero, bytesBefore}
-use Rattle.numbers.specs.Places.{window}
 use Rattle.numbers.proofs.Endian.{big-length, fromBig-big, big-fromBig, fromBig-below}
-use Rattle.numbers.proofs.Places.{window-inside, window-bytes}
+use Rattle.places.proofs.Places.{window-inside, window-bytes}
 use Rattle.bits.proofs.Order.{before-transitive, before-pack}
 use Rattle.bits.proofs.Packed.{pack-length, unpack-length, unpack-pack, pack-unpack, pack-spareZero}
 use Rattle.query.specs.Query.{OfLength, packs, query, limit, IsQuery, prefixLength, prefixCount, parts, packedPrefixes, prefixesOf, sparesZero, isAscending, isQuery}
-use Rattle.numbers.proofs.Lists.{and-left, and-right, all-map}
+use Rattle.places.proofs.Lists.{and-left, and-right, all-map}
 
 -- ---- packed strings, one after the other
 

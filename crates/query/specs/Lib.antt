@@ -1,2 +1,3 @@
 pub mod Query
 pub mod Prefix
+pub mod Written

@@ -5,11 +5,11 @@ use mathlib.Core.Bool.{Bool, true, false, _&&_}
 use mathlib.Core.List.{List, [], _∷_, _++_, map}
 use lib.ListN.{length, take, drop}
 use lib.Dec.{leb, eqb}
-use Rattle.numbers.specs.Lists.{All}
+use Rattle.places.specs.Lists.{All}
 use Rattle.bits.specs.Strings.{Bits, _▹_, isBefore, Ascending}
 use Rattle.numbers.specs.Numbers.{big, fromBig}
 use Rattle.bits.specs.Packing.{packedLength, pack, unpack, spareZero}
-use Rattle.numbers.specs.Places.{window}
+use Rattle.places.specs.Places.{window}
 
 -- strings of n bits each
 abbrev pub OfLength : ℕ → List Bits → Type 0

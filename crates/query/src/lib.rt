@@ -10,8 +10,9 @@ ghost use Rattle.query.specs.Prefix.{packedPrefix};
 
 mod writing;
 
-pub use writing::write_child;
+pub use writing::write_both_children;
 pub use writing::write_heading;
+pub use writing::write_prefix;
 
 // The prefix length of a query.
 pub fn prefix_length(q: &[u8]) -> usize

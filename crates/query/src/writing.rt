@@ -1,14 +1,17 @@
-// Queries as they are written: the heading, and the children of a prefix. What does not fit is not written at all.
-use numbers::wide;
-use numbers::within;
+// Queries as they are written: the heading, kept prefixes, and their children. What does not fit is not written at all.
+use bits::write_child;
+use places::copy;
+use places::within;
 ghost use mathlib.Core.Path.{_≡_};
-ghost use mathlib.Core.List.{_++_};
-ghost use Prim.Native.Nat.{_+_, _*_, _<_};
+ghost use mathlib.Core.Bool.{cond};
+ghost use mathlib.Core.List.{[], _++_};
+ghost use Prim.Native.Nat.{_+_, _<_};
 ghost use lib.ListN.{length, take};
-ghost use Rattle.bits.specs.Strings.{_▹_};
 ghost use Rattle.numbers.specs.Numbers.{big};
-ghost use Rattle.bits.specs.Packing.{value, digits, bitsOf, pack, unpack};
-ghost use Rattle.numbers.specs.Places.{putAt};
+ghost use Rattle.bits.specs.Packing.{packedLength, pack, unpack};
+ghost use Rattle.places.specs.Places.{putAt};
+ghost use Rattle.query.specs.Prefix.{part};
+ghost use Rattle.query.specs.Written.{fitting, bothChildren};
 
 // Writes the 6 bytes that begin a query for `count` prefixes of k + 1 bits, from place `at` on.
 pub fn write_heading(out: &mut [u8], at: usize, k: u64, count: u64)
@@ -21,54 +24,67 @@ pub fn write_heading(out: &mut [u8], at: usize, k: u64, count: u64)
     numbers::write_be4(out, at + 2, count);
 }
 
-// The byte that begins with the first `rest` bits of x and then has `bit`; its other bits are zero.
-fn last_byte(x: u8, rest: usize, bit: bool) -> u8
-    requires { ⌜ rest < 8 ⌝ }
-    ensures { λ r. ⌜ r ≡ value 8 (take rest (digits 8 x) ▹ bit) ⌝ }
+// what is written.
+pub fn write_prefix(
+    kept: bool,
+    source: &[u8],
+    from: usize,
+    w: usize,
+    out: &mut [u8],
+    at: usize,
+) -> usize
+    ensures { λ _. ⌜ now (out .exit) ≡ putAt (now (out .entry)) at (cond kept (part w from (now (source .entry))) []) ⌝ }
+    ensures { λ r. ⌜ r ≡ at + length (fitting (now (out .entry)) at (cond kept (part w from (now (source .entry))) [])) ⌝ }
 {
-    let unit = 256 >> rest;
-    let y = wide(x);
-    let kept = y - y % unit;
-    if bit {
-        return (kept + unit / 2) as u8;
+    if !kept {
+        return at;
     }
-    kept as u8
+    if !within(source.len(), from, w) {
+        return at;
+    }
+    if !within(out.len(), at, w) {
+        return at;
+    }
+    let end = from + w;
+    copy(&source[from..end], out, at);
+    at + w
 }
 
-// The child of the first 8 * whole + rest bits of `prefix`, which end in its byte `whole`, packed, from place `at` on.
-fn put_child(prefix: &[u8], whole: usize, rest: usize, bit: bool, out: &mut [u8], at: usize)
-    requires { ⌜ (rest < 8) × (whole < length (now prefix)) ⌝ }
-    ensures { λ _. ⌜ now (out .exit) ≡ putAt (now (out .entry)) at (pack (unpack (8 * whole + rest) (now (prefix .entry)) ▹ bit)) ⌝ }
+// How many bytes a child takes of the prefix that the first len bits of `prefix` are.
+fn child_length(prefix: &[u8], len: usize) -> usize
+    ensures { λ r. ⌜ r ≡ packedLength (length (unpack len (now (prefix .entry))) + 1) ⌝ }
 {
-    let end = whole + 1;
-    if !within(out.len(), at, end) {
-        return;
+    let whole = len / 8;
+    if whole < prefix.len() {
+        return whole + 1;
     }
-    let last = last_byte(prefix[whole], rest, bit);
-    numbers::copy(&prefix[..end], out, at);
-    out[at + whole] = last;
+    prefix.len() + 1
 }
 
-// The child of all bits of `prefix`, packed, from place `at` on.
-fn put_child_of_all(prefix: &[u8], bit: bool, out: &mut [u8], at: usize)
-    ensures { λ _. ⌜ now (out .exit) ≡ putAt (now (out .entry)) at (pack (bitsOf (now (prefix .entry)) ▹ bit)) ⌝ }
+// Writes both children of the prefix that the first len bits of `prefix` are, packed, into the places of `out` from `at` on, if it is kept; and the
+// place after what is written.
+pub fn write_both_children(
+    kept: bool,
+    prefix: &[u8],
+    len: usize,
+    out: &mut [u8],
+    at: usize,
+) -> usize
+    ensures { λ _. ⌜ now (out .exit) ≡ putAt (now (out .entry)) at (cond kept (bothChildren (unpack len (now (prefix .entry)))) []) ⌝ }
+    ensures { λ r. ⌜ r ≡ at + length (fitting (now (out .entry)) at (cond kept (bothChildren (unpack len (now (prefix .entry)))) [])) ⌝ }
 {
-    let whole = prefix.len();
-    if !within(out.len(), at, whole + 1) {
-        return;
+    if !kept {
+        return at;
     }
-    let last = last_byte(0, 0, bit);
-    numbers::copy(prefix, out, at);
-    out[at + whole] = last;
-}
-
-// Writes the child, on side `bit`, of the prefix that the first len bits of `prefix` are, packed, from place `at` on.
-pub fn write_child(prefix: &[u8], len: usize, bit: bool, out: &mut [u8], at: usize)
-    ensures { λ _. ⌜ now (out .exit) ≡ putAt (now (out .entry)) at (pack (unpack len (now (prefix .entry)) ▹ bit)) ⌝ }
-{
-    if prefix.len() <= len / 8 {
-        put_child_of_all(prefix, bit, out, at);
-        return;
+    let size = child_length(prefix, len);
+    if !within(out.len(), at, size) {
+        return at;
     }
-    put_child(prefix, len / 8, len % 8, bit, out, at);
+    let second = at + size;
+    if !within(out.len(), second, size) {
+        return at;
+    }
+    write_child(prefix, len, false, out, at);
+    write_child(prefix, len, true, out, second);
+    second + size
 }

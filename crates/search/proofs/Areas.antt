@@ -7,8 +7,8 @@ use mathlib.Core.Logic.{_≢_}
 use borrow.Author.Tests.{eqb-true, eqb-false, ne-eqb}
 use lib.Dec.{eqb}
 use lib.ListN.{length, drop, replicate, length-replicate}
-use Rattle.numbers.specs.Places.{overlay}
-use Rattle.numbers.proofs.Places.{overlay-nil, overlay-length}
+use Rattle.places.specs.Places.{overlay}
+use Rattle.places.proofs.Places.{overlay-nil, overlay-length}
 use Rattle.search.specs.Search.{Lent, recordBytes, listBytes, searchNumber, recordLength, listLength, recordAfter, listAfter}
 use Rattle.search.proofs.Outcome.{accepted-clear}
 

@@ -2,14 +2,6 @@ pub mod SameBytes
 pub mod Outcome
 pub mod SearchDue
 pub mod Areas
-pub mod Acceptance
 pub mod Rule
-pub mod Pieces
-pub mod LevelTotals
-pub mod Asking
-pub mod Reading
-pub mod Below
-pub mod Turn
-pub mod Opening
 pub mod Judging
 pub mod Closing

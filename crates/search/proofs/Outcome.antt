@@ -3,17 +3,17 @@ use Prim.Native.Nat.{ℕ, _*_, _/_, _%_, _≤_, _<_}
 use native.Mathlib.Omega.{arith}
 use native.Mathlib.Nat.{min-eq-left, mul-comm, div-add-mod'}
 use mathlib.Core.Path.{_≡_, refl, sym, _∙_}
-use mathlib.Core.Bool.{Bool, true, false, cond, not, true≢false, _||_}
+use mathlib.Core.Bool.{Bool, true, false, cond, not, true≢false}
 use mathlib.Core.List.{List, [], _∷_, _++_}
 use mathlib.Core.Logic.{_≢_}
 use borrow.Author.Tests.{eqb-true, ltb-false, not-false}
 use lib.ListN.{length}
 use lib.Dec.{eqb, ltb}
-use Rattle.numbers.specs.Lists.{All}
-use Rattle.calls.specs.Bounds.{lengthOutside, thresholdOutside, mostReports}
-use Rattle.calls.specs.Causes.{Cause, cause, numberDue}
-use Rattle.calls.proofs.Decisions.{neither}
+use Rattle.calls.specs.Bounds.{mostBits, mostThreshold, mostReports}
+use Rattle.calls.specs.Causes.{Cause, numberDue}
+use Rattle.calls.proofs.Decisions.{neither, bounds}
 use Rattle.calls.proofs.Judged.{_&_}
+use Rattle.calls.proofs.Judged as calls
 use Rattle.expander.specs.Expander.{choiceOf, isExpander}
 use Rattle.expander.specs.declared.Expander.{Expander}
 use Rattle.expander.specs.declared.Choice.{Choice}
@@ -24,20 +24,25 @@ use Rattle.point.specs.PublicShare.{publicShareLength, payloadsBelow, spareBits
 use Rattle.point.proofs.Joined.{every-at}
 use Rattle.idpf.specs.Reports.{reportCount, publicShareAt}
 use Rattle.idpf.specs.Share.{wrongLengths, payloadTooLarge, spareBitsSet}
-use Rattle.search.specs.Search.{Lent, reports, recordBytes, listBytes, queriesFit, sameBytes, searchNumber}
+use Rattle.search.specs.Search.{Lent, reports, recordBytes, listBytes, queriesFit, lentCauses, spaceCauses, searchNumber}
 use Rattle.search.proofs.SameBytes.{same-equal}
 
 -- ---- the number that is due
 
+-- each bears another number than k
+abbrev pub Bearing : ℕ → List Cause → Type 0
+Bearing k [] = Unit {0}
+Bearing k (c ∷ cs) = (c .number ≢ k) × Bearing k cs
+
 -- where a number is due, none of the causes that bear another and stand before it applies
-pub none-before : (k : ℕ) (cs ds : List Cause) → All (λ c. c .number ≢ k) cs → numberDue (cs ++ ds) ≡ k
-    → All (λ c. c .applies ≡ false) cs × (numberDue ds ≡ k)
+pub none-before : (k : ℕ) (cs ds : List Cause) → Bearing k cs → numberDue (cs ++ ds) ≡ k
+    → calls.Clear cs × (numberDue ds ≡ k)
 none-before k [] ds other h = (tt, h)
-none-before k (c ∷ cs) ds other h = go (c .applies) h (none-before k cs ds (other .1))
+none-before k (c ∷ cs) ds other h = go (c .test) h (none-before k cs ds (other .1))
   where
     go : (b : Bool) → cond b (c .number) (numberDue (cs ++ ds)) ≡ k
-        → (numberDue (cs ++ ds) ≡ k → All (λ c. c .applies ≡ false) cs × (numberDue ds ≡ k))
-        → ((b ≡ false) × All (λ c. c .applies ≡ false) cs) × (numberDue ds ≡ k)
+        → (numberDue (cs ++ ds) ≡ k → calls.Clear cs × (numberDue ds ≡ k))
+        → ((b ≡ false) × calls.Clear cs) × (numberDue ds ≡ k)
     go true h f = absurd (other .0 h)
     go false h f = let r = f h in ((refl, r .0), r .1)
 
@@ -101,27 +106,10 @@ named-expander e h = go (choiceOf e) refl
     go Unknown q = absurd (true≢false (sym h ∙ unknown e q))
 
 module _ (s : Lent) where
-  -- the causes before 11
-  abbrev before : List Cause
-  before =
-      cause 1 (lengthOutside (s .n))
-      ∷ cause 2 (thresholdOutside (s .t))
-      ∷ cause 3 (not (isExpander (s .expander)))
-      ∷ cause 4 (wrongLengths (s .n) (s .seeds0) (s .shares0) || (wrongLengths (s .n) (s .seeds1) (s .shares1) || not (eqb (length (s .seeds0)) (length (s .seeds1)))))
-      ∷ cause 5 (ltb mostReports (reports s))
-      ∷ cause 6 (payloadTooLarge (s .n) (s .seeds0) (s .shares0) || payloadTooLarge (s .n) (s .seeds1) (s .shares1))
-      ∷ cause 7 (spareBitsSet (s .n) (s .seeds0) (s .shares0) || spareBitsSet (s .n) (s .seeds1) (s .shares1))
-      ∷ cause 8 (not (sameBytes (s .shares0) (s .shares1)))
-      ∷ []
-
-  -- the test of 11
-  abbrev no-room : Bool
-  no-room = ltb (length (s .recordArea)) (length (recordBytes s)) || (ltb (length (s .listArea)) (length (listBytes s)) || not (queriesFit s))
-
-  sound : All (λ c. c .applies ≡ false) before → Sound s
+  sound : calls.Clear (lentCauses s) → Sound s
   sound a =
-      let bits = neither (ltb (s .n) 1) (ltb 256 (s .n)) (a .0) in
-      let threshold = neither (ltb (s .t) 1) (ltb 65535 (s .t)) (a .1 .0) in
+      let bits = bounds mostBits (s .n) (a .0) in
+      let threshold = bounds mostThreshold (s .t) (a .1 .0) in
       let e = named-expander (s .expander) (not-false _ (a .1 .1 .0)) in
       let lengths = neither (wrongLengths (s .n) (s .seeds0) (s .shares0)) _ (a .1 .1 .1 .0) in
       let other = neither (wrongLengths (s .n) (s .seeds1) (s .shares1)) _ (lengths .1) in
@@ -129,10 +117,10 @@ module _ (s : Lent) where
       let payloads = neither (payloadTooLarge (s .n) (s .seeds0) (s .shares0)) _ (a .1 .1 .1 .1 .1 .0) in
       let spares = neither (spareBitsSet (s .n) (s .seeds0) (s .shares0)) _ (a .1 .1 .1 .1 .1 .1 .0) in
       record {
-        some-bits = ltb-false (s .n) 1 (bits .0);
-        not-longer = ltb-false 256 (s .n) (bits .1);
-        some-threshold = ltb-false (s .t) 1 (threshold .0);
-        not-higher = ltb-false 65535 (s .t) (threshold .1);
+        some-bits = bits .0;
+        not-longer = bits .1;
+        some-threshold = threshold .0;
+        not-higher = threshold .1;
         expander = e .0;
         named = e .1;
         lent0 = whole-lent (s .n) (s .seeds0) (s .shares0) (lengths .0) (payloads .0) (spares .0);
@@ -142,15 +130,15 @@ module _ (s : Lent) where
       }
 
   -- a number that none of them bears
-  past : (k : ℕ) → All (λ c. c .number ≢ k) before → searchNumber s ≡ k → Sound s × (numberDue (cause 11 no-room ∷ []) ≡ k)
+  past : (k : ℕ) → Bearing k (lentCauses s) → searchNumber s ≡ k → Sound s × (numberDue (spaceCauses s) ≡ k)
   unfolding searchNumber
-  past k other h = let r = none-before k before (cause 11 no-room ∷ []) other h in (sound (r .0), r .1)
+  past k other h = let r = none-before k (lentCauses s) (spaceCauses s) other h in (sound (r .0), r .1)
 
   -- what follows from 0
   pub accepted-clear : searchNumber s ≡ 0 → Clear s
   accepted-clear h =
       let r = past 0 (omega arith & omega arith & omega arith & omega arith & omega arith & omega arith & omega arith & omega arith & tt) h in
-      let last = none-before 0 (cause 11 no-room ∷ []) [] (omega arith & tt) (r .1) .0 in
+      let last = none-before 0 (spaceCauses s) [] (omega arith & tt) (r .1) .0 in
       let room = neither (ltb (length (s .recordArea)) (length (recordBytes s))) _ (last .0) in
       let list = neither (ltb (length (s .listArea)) (length (listBytes s))) _ (room .1) in
       record {

@@ -19,13 +19,14 @@ use Rattle.tree.specs.Search.{searchRecord, searchList}
 use Rattle.tree.specs.Cut.{honestRecord, honestList, honestFits}
 use Rattle.tree.proofs.Limit.{fits-within}
 use Rattle.tree.proofs.Agree.{list-agrees, fits-agree, record-agrees}
-use Rattle.idpf.specs.Reports.{serverSum}
+use Rattle.idpf.specs.Reports.{allCount, serverSum}
 use Rattle.search.specs.Search.{Lent, reports, totalUnder, total, recordBytes, listBytes, queriesFit}
 
 -- The total of a prefix is the sum of what server 0 and server 1 add up over their own seeds and public shares.
 pub total-sum : (s : Lent) (e : Expander) → choiceOf (s .expander) ≡ Known e → (q : Bits)
     → total s q
-    ≡ (serverSum e (s .n) false (s .seeds0) (s .shares0) (bitOf q) (length q) + serverSum e (s .n) true (s .seeds1) (s .shares1) (bitOf q) (length q)) % p
+    ≡ (serverSum e (s .n) false (s .seeds0) (s .shares0) allCount (bitOf q) (length q)
+    + serverSum e (s .n) true (s .seeds1) (s .shares1) allCount (bitOf q) (length q)) % p
 unfolding totalUnder
 total-sum s e named q = ap (λ (c : Choice). totalUnder c s q) named
 

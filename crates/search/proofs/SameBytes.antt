@@ -5,7 +5,7 @@ use mathlib.Core.Bool.{true}
 use mathlib.Core.List.{List, [], _∷_}
 use borrow.Author.Tests.{eqb-true, eq-eqb}
 use lib.Dec.{eqb}
-use Rattle.numbers.proofs.Lists.{and-left, and-right}
+use Rattle.places.proofs.Lists.{and-left, and-right}
 use Rattle.search.specs.Search.{sameBytes}
 
 pub same-equal : (xs ys : List ℕ) → sameBytes xs ys ≡ true → xs ≡ ys

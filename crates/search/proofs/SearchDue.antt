@@ -1,21 +1,18 @@
 -- The number that a search returns is the one that is due, where the public shares are bytes. Assumes nothing.
 use Prim.Native.Nat.{ℕ, _<_}
 use mathlib.Core.Path.{sym, _∙_}
-use mathlib.Core.Bool.{Bool, false, not, true≢false, _||_}
+use mathlib.Core.Bool.{Bool, not, true≢false, _||_}
 use mathlib.Core.List.{List}
 use mathlib.Core.Logic.{_≢_, _⊎_}
 use lib.ListN.{length, getD}
 use lib.Dec.{T, eqb, ltb, ltb→lt, lt→ltb, not-T}
-use Rattle.calls.specs.Bounds.{lengthOutside, thresholdOutside, mostReports}
-use Rattle.calls.specs.Clauses.{Due}
-use Rattle.calls.proofs.Decisions.{passed, failed, failed-test, differ, differ-test, either, either-test, beyond, beyond-test}
-use Rattle.calls.proofs.Judged.{number-due, none, next}
-use Rattle.expander.specs.Expander.{isExpander}
-use Rattle.expander.proofs.Chosen.{unnamed, unnamed-test}
+use Rattle.calls.specs.Causes.{Due}
+use Rattle.calls.proofs.Decisions.{passed, failed, failed-test, differ, differ-test, either, either-test}
+use Rattle.calls.proofs.Judged.{number-due, none, next, length-decided, threshold-decided, expander-decided, reports-decided}
 use Rattle.tree.proofs.Limit.{fits-not}
 use Rattle.idpf.specs.Share.{WrongLengths, wrongLengths, payloadTooLarge, spareBitsSet}
 use Rattle.idpf.proofs.ShareDue.{wrong, wrong-test, too-large, too-large-test, bits-set, bits-set-test}
-use Rattle.search.specs.Search.{Lent, reports, recordBytes, listBytes, queriesFit, sameBytes, QueryTooLong, searchClauses, searchNumber}
+use Rattle.search.specs.Search.{Lent, reports, recordBytes, listBytes, queriesFit, sameBytes, QueryTooLong, searchCauses, searchNumber}
 use Rattle.search.proofs.SameBytes.{same-equal, equal-same}
 
 -- ---- the causes
@@ -76,15 +73,15 @@ unequal-test xs ys h = not-T (sameBytes xs ys) (λ t. h (same-equal xs ys (passe
 -- ---- the number that is due
 
 -- for everything that may be lent, where each element of the public shares is below 256
-pub search-due : (s : Lent) → ((i : ℕ) → getD (s .shares0) i 0 < 256) → ((i : ℕ) → getD (s .shares1) i 0 < 256) → Due (searchClauses s) (searchNumber s)
+pub search-due : (s : Lent) → ((i : ℕ) → getD (s .shares0) i 0 < 256) → ((i : ℕ) → getD (s .shares1) i 0 < 256) → Due (searchCauses s) (searchNumber s)
 unfolding searchNumber
 search-due s byte0 byte1 =
     number-due
-    (next {b = lengthOutside (s .n)} (beyond 256 (s .n)) (beyond-test 256 (s .n))
-    (next {b = thresholdOutside (s .t)} (beyond 65535 (s .t)) (beyond-test 65535 (s .t))
-    (next {b = not (isExpander (s .expander))} (unnamed (s .expander)) (unnamed-test (s .expander))
+    (length-decided (s .n)
+    (threshold-decided (s .t)
+    (expander-decided (s .expander)
     (next {b = wrong0 s || (wrong1 s || other-seeds s)} (lengths s) (lengths-test s)
-    (next {b = ltb mostReports (reports s)} (ltb→lt mostReports (reports s)) (lt→ltb mostReports (reports s))
+    (reports-decided (reports s)
     (next {b = large0 || large1}
     (either large0 large1 (too-large (s .n) (s .seeds0) (s .shares0)) (too-large (s .n) (s .seeds1) (s .shares1)))
     (either-test large0 large1 (too-large-test (s .n) (s .seeds0) (s .shares0)) (too-large-test (s .n) (s .seeds1) (s .shares1)))

@@ -1,24 +1,21 @@
 -- The call `search`: document 01, 'The search' and 'Causes of refusal'. Assumes nothing.
 use Prim.Native.Nat.{ℕ, _/_, _<_}
 use mathlib.Core.Bool.{Bool, true, false, cond, not, _&&_, _||_}
-use mathlib.Core.List.{List, [], _∷_}
+use mathlib.Core.List.{List, [], _∷_, _++_}
 use mathlib.Core.Logic.{_≢_, _⊎_}
 use lib.ListN.{length, replicate}
 use lib.Dec.{leb, ltb, eqb}
 use Rattle.bits.specs.Strings.{Bits}
-use Rattle.numbers.specs.Places.{overlay}
-use Rattle.calls.specs.Bounds.{LengthOutside, lengthOutside, ThresholdOutside, thresholdOutside, mostReports}
+use Rattle.places.specs.Places.{overlay}
+use Rattle.calls.specs.Bounds.{lengthCause, thresholdCause, expanderCause, reportsCause}
 use Rattle.calls.specs.Causes.{Cause, cause, numberDue}
-use Rattle.calls.specs.Clauses.{Clause, clause}
-use Rattle.expander.specs.Expander.{choiceOf, isExpander}
-use Rattle.expander.specs.declared.Expander.{Expander}
+use Rattle.expander.specs.Expander.{choiceOf}
 use Rattle.expander.specs.declared.Choice.{Choice}
 use Rattle.expander.specs.declared.Choice.the-variants.{Known, Unknown}
-use Rattle.group.specs.Modular.{field}
-use Rattle.point.specs.Share.{bitOf}
 use Rattle.query.specs.Query.{packs, limit, children}
 use Rattle.tree.specs.Search.{searchRecord, searchList, searchFits}
-use Rattle.idpf.specs.Reports.{serverSum}
+use Rattle.levels.specs.Levels.{totalOf, Ending, endingWith}
+use Rattle.search.specs.declared.Found.{Found}
 use Rattle.idpf.specs.Share.{WrongLengths, wrongLengths, PayloadTooLarge, payloadTooLarge, SpareBitsSet, spareBitsSet}
 
 -- What a search is lent: the string length, the threshold and the expander's number; each server's root seeds and public shares; the record area
@@ -52,14 +49,21 @@ lent n t expander seeds0 shares0 seeds1 shares1 recordArea listArea = record {
 abbrev pub reports : Lent → ℕ
 reports s = length (s .seeds0) / 16
 
+-- C: how many of them are counted, which is all
+abbrev pub countedNumber : Lent → ℕ
+countedNumber s = reports s
+
+-- the threshold t
+abbrev pub thresholdOf : Lent → ℕ
+thresholdOf s = s .t
+
+-- whether a total, as a whole number, is at least t
+abbrev pub reachesOf : Lent → ℕ → Bool
+reachesOf s = leb (thresholdOf s)
+
 -- ---- the search
 
--- the total of the prefix q: the sum of all reports' shares from both servers, whatever bytes were lent for reports
-abbrev pub totalOf : Expander → ℕ → List ℕ → List ℕ → List ℕ → List ℕ → Bits → ℕ
-totalOf e n seeds0 shares0 seeds1 shares1 q =
-    field .add (serverSum e n false seeds0 shares0 (bitOf q) (length q)) (serverSum e n true seeds1 shares1 (bitOf q) (length q))
-
--- the same under the expander that was chosen; without one, 0
+-- the total of the prefix q under the expander that was chosen; without one, 0
 unfoldable pub totalUnder : Choice → Lent → Bits → ℕ
 totalUnder (Known e) s q = totalOf e (s .n) (s .seeds0) (s .shares0) (s .seeds1) (s .shares1) q
 totalUnder Unknown s q = 0
@@ -69,21 +73,21 @@ total s = totalUnder (choiceOf (s .expander)) s
 
 -- the record: each query followed by its totals
 unfoldable pub recordBytes : Lent → List ℕ
-recordBytes s = searchRecord (leb (s .t)) (total s) (reports s) (s .n)
+recordBytes s = searchRecord (reachesOf s) (total s) (countedNumber s) (s .n)
 
 -- the list: the kept strings of n bits, packed
 unfoldable pub listBytes : Lent → List ℕ
-listBytes s = packs (searchList (leb (s .t)) (total s) (s .n))
+listBytes s = packs (searchList (reachesOf s) (total s) (s .n))
 
 -- whether every query is within 131,070 prefixes
 unfoldable pub queriesFit : Lent → Bool
-queriesFit s = searchFits (leb (s .t)) (total s) (s .n)
+queriesFit s = searchFits (reachesOf s) (total s) (s .n)
 
 -- ---- causes of refusal
 
 -- a next query would pass 131,070 prefixes: for some k below n, the kept prefixes of k bits have more children than that
 abbrev pub QueryTooLong : Lent → Type 0
-QueryTooLong s = (k : ℕ) × (k < s .n) × (limit < length (children (searchList (leb (s .t)) (total s) k)))
+QueryTooLong s = (k : ℕ) × (k < s .n) × (limit < length (children (searchList (reachesOf s) (total s) k)))
 
 -- whether two lists of bytes are the same
 abbrev pub sameBytes : List ℕ → List ℕ → Bool
@@ -92,33 +96,42 @@ sameBytes [] (y ∷ ys) = false
 sameBytes (x ∷ xs) [] = false
 sameBytes (x ∷ xs) (y ∷ ys) = eqb x y && sameBytes xs ys
 
--- the causes in words
-abbrev pub searchClauses : Lent → List Clause
-searchClauses s =
-    clause 1 (LengthOutside (s .n))
-    ∷ clause 2 (ThresholdOutside (s .t))
-    ∷ clause 3 ((s .expander ≢ 1) × (s .expander ≢ 2))
-    ∷ clause 4 (WrongLengths (s .n) (s .seeds0) (s .shares0) ⊎ WrongLengths (s .n) (s .seeds1) (s .shares1) ⊎ (length (s .seeds0) ≢ length (s .seeds1)))
-    ∷ clause 5 (mostReports < reports s)
-    ∷ clause 6 (PayloadTooLarge (s .n) (s .seeds0) (s .shares0) ⊎ PayloadTooLarge (s .n) (s .seeds1) (s .shares1))
-    ∷ clause 7 (SpareBitsSet (s .n) (s .seeds0) (s .shares0) ⊎ SpareBitsSet (s .n) (s .seeds1) (s .shares1))
-    ∷ clause 8 (s .shares0 ≢ s .shares1)
-    ∷ clause 11 ((length (s .recordArea) < length (recordBytes s)) ⊎ (length (s .listArea) < length (listBytes s)) ⊎ QueryTooLong s)
+-- those of the settings: n, t and the expander
+abbrev pub settingsCauses : ℕ → ℕ → ℕ → List Cause
+settingsCauses n t expander = lengthCause n ∷ thresholdCause t ∷ expanderCause expander ∷ []
+
+-- of how much is lent
+abbrev pub lengthCauses : ℕ → List ℕ → List ℕ → List ℕ → List ℕ → List Cause
+lengthCauses n seeds0 shares0 seeds1 shares1 =
+    cause 4 (WrongLengths n seeds0 shares0 ⊎ WrongLengths n seeds1 shares1 ⊎ (length seeds0 ≢ length seeds1))
+    (wrongLengths n seeds0 shares0 || (wrongLengths n seeds1 shares1 || not (eqb (length seeds0) (length seeds1))))
+    ∷ reportsCause (length seeds0 / 16)
     ∷ []
 
--- the same, as they are tested
-abbrev pub searchCauses : Lent → List Cause
-searchCauses s =
-    cause 1 (lengthOutside (s .n))
-    ∷ cause 2 (thresholdOutside (s .t))
-    ∷ cause 3 (not (isExpander (s .expander)))
-    ∷ cause 4 (wrongLengths (s .n) (s .seeds0) (s .shares0) || (wrongLengths (s .n) (s .seeds1) (s .shares1) || not (eqb (length (s .seeds0)) (length (s .seeds1)))))
-    ∷ cause 5 (ltb mostReports (reports s))
-    ∷ cause 6 (payloadTooLarge (s .n) (s .seeds0) (s .shares0) || payloadTooLarge (s .n) (s .seeds1) (s .shares1))
-    ∷ cause 7 (spareBitsSet (s .n) (s .seeds0) (s .shares0) || spareBitsSet (s .n) (s .seeds1) (s .shares1))
-    ∷ cause 8 (not (sameBytes (s .shares0) (s .shares1)))
-    ∷ cause 11 (ltb (length (s .recordArea)) (length (recordBytes s)) || (ltb (length (s .listArea)) (length (listBytes s)) || not (queriesFit s)))
+-- of the reports
+abbrev pub reportCauses : ℕ → List ℕ → List ℕ → List ℕ → List ℕ → List Cause
+reportCauses n seeds0 shares0 seeds1 shares1 =
+    cause 6 (PayloadTooLarge n seeds0 shares0 ⊎ PayloadTooLarge n seeds1 shares1) (payloadTooLarge n seeds0 shares0 || payloadTooLarge n seeds1 shares1)
+    ∷ cause 7 (SpareBitsSet n seeds0 shares0 ⊎ SpareBitsSet n seeds1 shares1) (spareBitsSet n seeds0 shares0 || spareBitsSet n seeds1 shares1)
+    ∷ cause 8 (shares0 ≢ shares1) (not (sameBytes shares0 shares1))
     ∷ []
+
+-- of the space
+abbrev pub spaceCauses : Lent → List Cause
+spaceCauses s =
+    cause 11 ((length (s .recordArea) < length (recordBytes s)) ⊎ (length (s .listArea) < length (listBytes s)) ⊎ QueryTooLong s)
+    (ltb (length (s .recordArea)) (length (recordBytes s)) || (ltb (length (s .listArea)) (length (listBytes s)) || not (queriesFit s)))
+    ∷ []
+
+-- those of what is lent, before the space
+abbrev pub lentCauses : Lent → List Cause
+lentCauses s =
+    settingsCauses (s .n) (s .t) (s .expander)
+    ++ (lengthCauses (s .n) (s .seeds0) (s .shares0) (s .seeds1) (s .shares1) ++ reportCauses (s .n) (s .seeds0) (s .shares0) (s .seeds1) (s .shares1))
+
+-- all, in the order in which they are judged
+abbrev pub searchCauses : Lent → List Cause
+searchCauses s = lentCauses s ++ spaceCauses s
 
 -- ---- the outcome
 
@@ -144,3 +157,11 @@ recordAfter s = cond (eqb (searchNumber s) 11) (replicate (length (s .recordArea
 -- the list area at exit
 unfoldable pub listAfter : Lent → List ℕ
 listAfter s = overlay (onSuccess (searchNumber s) (listBytes s)) (s .listArea)
+
+-- what the call returns, and both areas at exit
+abbrev pub searchEnding : Lent → Ending
+searchEnding s = endingWith (searchNumber s) (recordLength s) (listLength s) (recordAfter s) (listAfter s)
+
+-- what was returned, and both areas as they were left
+abbrev pub returned : Found → List ℕ → List ℕ → Ending
+returned r recordArea listArea = endingWith (r .number) (r .«record_length») (r .«list_length») recordArea listArea

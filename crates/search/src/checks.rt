@@ -2,11 +2,11 @@
 ghost use mathlib.Core.Path.{_≡_};
 ghost use mathlib.Core.Bool.{not, _||_};
 ghost use mathlib.Core.List.{[]};
-ghost use lib.ListN.{length, take};
+ghost use lib.ListN.{length};
 ghost use lib.Dec.{eqb};
 ghost use Rattle.calls.specs.Causes.{numberDue};
 ghost use Rattle.idpf.specs.Share.{wrongLengths, payloadTooLarge, spareBitsSet};
-ghost use Rattle.search.specs.Search.{lent, sameBytes, searchCauses};
+ghost use Rattle.search.specs.Search.{lent, sameBytes, settingsCauses, lengthCauses, reportCauses, lentCauses};
 
 // Whether two slices hold the same bytes.
 fn same_bytes(a: &[u8], b: &[u8]) -> bool
@@ -27,7 +27,8 @@ fn same_bytes(a: &[u8], b: &[u8]) -> bool
 
 // Whether what is lent for either server has the wrong length, or the servers' seeds differ in count.
 fn lengths_wrong(n: u16, seeds0: &[u8], shares0: &[u8], seeds1: &[u8], shares1: &[u8]) -> bool
-    ensures { λ r. ⌜ r ≡ (wrongLengths n (now (seeds0 .entry)) (now (shares0 .entry)) || (wrongLengths n (now (seeds1 .entry)) (now (shares1 .entry)) || not (eqb (length (now (seeds0 .entry))) (length (now (seeds1 .entry)))))) ⌝ }
+    ensures { λ r. ⌜ r ≡ (wrongLengths n (now (seeds0 .entry)) (now (shares0 .entry)) || (wrongLengths n (now (seeds1 .entry)) (now (shares1 .entry)) || not
+        (eqb (length (now (seeds0 .entry))) (length (now (seeds1 .entry)))))) ⌝ }
 {
     if idpf::wrong_lengths(n, seeds0, shares0) {
         return true;
@@ -58,7 +59,52 @@ fn spare_bits_set(n: u16, seeds0: &[u8], shares0: &[u8], seeds1: &[u8], shares1:
     !idpf::all_spare_bits_zero(n, seeds1, shares1)
 }
 
-// The number of the first of these causes that applies, or 0.
+// The number of the first of these causes of the settings that applies, or 0.
+fn settings_cause(n: u64, t: u64, expander: u64) -> u64
+    ensures { λ r. ⌜ r ≡ numberDue (settingsCauses n t expander) ⌝ }
+{
+    if calls::length_outside(n) {
+        return 1;
+    }
+    if calls::threshold_outside(t) {
+        return 2;
+    }
+    if !expander::is_expander(expander) {
+        return 3;
+    }
+    0
+}
+
+// The same of how much is lent.
+fn length_cause(n: u16, seeds0: &[u8], shares0: &[u8], seeds1: &[u8], shares1: &[u8]) -> u64
+    ensures { λ r. ⌜ r ≡ numberDue (lengthCauses n (now (seeds0 .entry)) (now (shares0 .entry)) (now (seeds1 .entry)) (now (shares1 .entry))) ⌝ }
+{
+    if lengths_wrong(n, seeds0, shares0, seeds1, shares1) {
+        return 4;
+    }
+    if calls::too_many_reports(seeds0.len() / 16) {
+        return 5;
+    }
+    0
+}
+
+// The same of the reports.
+fn report_cause(n: u16, seeds0: &[u8], shares0: &[u8], seeds1: &[u8], shares1: &[u8]) -> u64
+    ensures { λ r. ⌜ r ≡ numberDue (reportCauses n (now (seeds0 .entry)) (now (shares0 .entry)) (now (seeds1 .entry)) (now (shares1 .entry))) ⌝ }
+{
+    if payload_too_large(n, seeds0, shares0, seeds1, shares1) {
+        return 6;
+    }
+    if spare_bits_set(n, seeds0, shares0, seeds1, shares1) {
+        return 7;
+    }
+    if !same_bytes(shares0, shares1) {
+        return 8;
+    }
+    0
+}
+
+// The number of the first cause of what is lent that applies, or 0.
 pub(crate) fn first_cause(
     n: u64,
     t: u64,
@@ -68,38 +114,17 @@ pub(crate) fn first_cause(
     seeds1: &[u8],
     shares1: &[u8],
 ) -> u64
-    ensures { λ r. ⌜ r ≡ numberDue (take 8 (searchCauses (lent n t expander (now (seeds0 .entry)) (now (shares0 .entry)) (now (seeds1 .entry)) (now (shares1 .entry)) [] []))) ⌝ }
+    ensures { λ r. ⌜ r ≡ numberDue (lentCauses (lent n t expander (now (seeds0 .entry)) (now (shares0 .entry)) (now (seeds1 .entry)) (now (shares1 .entry))
+        [] [])) ⌝ }
 {
-    if n < 1 {
-        return 1;
-    }
-    if 256 < n {
-        return 1;
-    }
-    if t < 1 {
-        return 2;
-    }
-    if 65535 < t {
-        return 2;
-    }
-    if !expander::is_expander(expander) {
-        return 3;
+    let settings = settings_cause(n, t, expander);
+    if settings != 0 {
+        return settings;
     }
     let levels = n as u16;
-    if lengths_wrong(levels, seeds0, shares0, seeds1, shares1) {
-        return 4;
+    let lengths = length_cause(levels, seeds0, shares0, seeds1, shares1);
+    if lengths != 0 {
+        return lengths;
     }
-    if 65535 < seeds0.len() / 16 {
-        return 5;
-    }
-    if payload_too_large(levels, seeds0, shares0, seeds1, shares1) {
-        return 6;
-    }
-    if spare_bits_set(levels, seeds0, shares0, seeds1, shares1) {
-        return 7;
-    }
-    if !same_bytes(shares0, shares1) {
-        return 8;
-    }
-    0
+    report_cause(levels, seeds0, shares0, seeds1, shares1)
 }

@@ -1,16 +1,11 @@
-// The whole search: checks, levels and areas. The record area is its only workspace.
+// The whole search: its causes of refusal, and then its levels.
 mod checks;
-mod children;
-mod descent;
-mod heavy;
-mod sums;
-mod whole;
 
 use crate::checks::first_cause;
-use crate::whole::run;
 use expander::Choice;
+use kept::Rule;
 ghost use mathlib.Core.Path.{_≡_};
-ghost use Rattle.search.specs.Search.{lent, searchNumber, recordLength, listLength, recordAfter, listAfter};
+ghost use Rattle.search.specs.Search.{lent, searchEnding, returned};
 
 // The number of the cause that refused it, or 0; and how many bytes were written of the record and of the list.
 #[repr(C)]
@@ -33,11 +28,9 @@ pub fn search(
     record: &mut [u8],
     list: &mut [u8],
 ) -> Found
-    ensures number { λ r. ⌜ r .number ≡ searchNumber (lent n t expander (now (seeds0 .entry)) (now («public_shares0» .entry)) (now (seeds1 .entry)) (now («public_shares1» .entry)) (now («record» .entry)) (now (list .entry))) ⌝ }
-    ensures record_written { λ r. ⌜ r .«record_length» ≡ recordLength (lent n t expander (now (seeds0 .entry)) (now («public_shares0» .entry)) (now (seeds1 .entry)) (now («public_shares1» .entry)) (now («record» .entry)) (now (list .entry))) ⌝ }
-    ensures list_written { λ r. ⌜ r .«list_length» ≡ listLength (lent n t expander (now (seeds0 .entry)) (now («public_shares0» .entry)) (now (seeds1 .entry)) (now («public_shares1» .entry)) (now («record» .entry)) (now (list .entry))) ⌝ }
-    ensures record_area { λ _. ⌜ now («record» .exit) ≡ recordAfter (lent n t expander (now (seeds0 .entry)) (now («public_shares0» .entry)) (now (seeds1 .entry)) (now («public_shares1» .entry)) (now («record» .entry)) (now (list .entry))) ⌝ }
-    ensures list_area { λ _. ⌜ now (list .exit) ≡ listAfter (lent n t expander (now (seeds0 .entry)) (now («public_shares0» .entry)) (now (seeds1 .entry)) (now («public_shares1» .entry)) (now («record» .entry)) (now (list .entry))) ⌝ }
+    ensures { λ r. ⌜ returned r (now («record» .exit)) (now (list .exit)) ≡ searchEnding (lent n t expander (now (seeds0 .entry))
+        (now («public_shares0» .entry))
+        (now (seeds1 .entry)) (now («public_shares1» .entry)) (now («record» .entry)) (now (list .entry))) ⌝ }
 {
     let number = first_cause(
         n,
@@ -56,17 +49,24 @@ pub fn search(
         };
     }
     match expander::choose(expander) {
-        Choice::Known(e) => run(
-            e,
-            n as u16,
-            t,
-            seeds0,
-            public_shares0,
-            seeds1,
-            public_shares1,
-            record,
-            list,
-        ),
+        Choice::Known(e) => {
+            let found = levels::run(
+                e,
+                (n - 1) as u8,
+                Rule { t },
+                seeds0,
+                public_shares0,
+                seeds1,
+                public_shares1,
+                record,
+                list,
+            );
+            Found {
+                number: found.number,
+                record_length: found.record_length,
+                list_length: found.list_length,
+            }
+        }
         Choice::Unknown => Found {
             number: 3,
             record_length: 0,

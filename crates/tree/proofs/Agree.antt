@@ -6,12 +6,12 @@ use mathlib.Core.Bool.{Bool, _&&_}
 use mathlib.Core.List.{List, [], _∷_, _++_}
 use lib.ListN.{length}
 use lib.Dec.{leb}
-use Rattle.numbers.specs.Lists.{All, select}
+use Rattle.places.specs.Lists.{All, select}
 use Rattle.bits.specs.Strings.{Bits}
 use Rattle.numbers.specs.Numbers.{little}
 use Rattle.query.specs.Query.{OfLength, query, limit, children}
 use Rattle.tree.specs.Search.{start, totals, level, keptFrom, fitsFrom, recordFrom, heading, isKept, searchRecord, searchList, searchFits}
-use Rattle.numbers.proofs.Lists.{all-map}
+use Rattle.places.proofs.Lists.{all-map}
 use Rattle.query.proofs.Children.{children-longer, kept-longer}
 
 -- ---- totals that agree at the prefixes of one query
@@ -24,7 +24,7 @@ module _ (T U : Bits → ℕ) where
   kept-same reaches [] a = refl
   kept-same reaches (q ∷ qs) a = rw (a .0, kept-same reaches qs (a .1))
 
-  totals-same : (qs : List Bits) → All SameAt qs → totals T qs ≡ totals U qs
+  pub totals-same : (qs : List Bits) → All SameAt qs → totals T qs ≡ totals U qs
   totals-same [] a = refl
   totals-same (q ∷ qs) a = ap₂ (λ x s. little 8 x ++ s) (a .0) (totals-same qs (a .1))
 

@@ -11,7 +11,7 @@ use lib.Dec.{leb, ltb}
 use Rattle.bits.specs.Strings.{Bits, _▹_, isPrefix, count}
 use Rattle.query.specs.Query.{OfLength}
 use Rattle.tree.specs.Cut.{prefixes, first, cut, cuts, isSame, times}
-use Rattle.numbers.proofs.Lists.{all-map, number-cong, number-and, number-map}
+use Rattle.places.proofs.Lists.{all-map, number-cong, number-and, number-map}
 use Rattle.tree.proofs.Kept.{Open}
 
 -- ---- prefixes and cuts, one bit after the other

@@ -8,12 +8,12 @@ use mathlib.Core.List.{List, _++_, map}
 use lib.ListN.{length, drop, length-map}
 use lib.Seq.{drop-at}
 use lib.Dec.{leb}
-use Rattle.numbers.specs.Lists.{_∈_}
+use Rattle.places.specs.Lists.{_∈_}
 use Rattle.bits.specs.Strings.{Bits, _▹_, isPrefix, count, Ascending}
 use Rattle.query.specs.Query.{OfLength}
 use Rattle.tree.specs.Search.{start, heading, headingLength, searchRecord, searchList}
 use Rattle.tree.specs.Cut.{Heavy, honestRecord, honestList, cut, cuts, times, Rearranged}
-use Rattle.numbers.proofs.Lists.{all-mem}
+use Rattle.places.proofs.Lists.{all-mem}
 use Rattle.tree.proofs.Rearranging.{rearranged-number, rearranged-length, ascending-once}
 use Rattle.tree.proofs.Kept.{Open, open-prefixes, Survives, list-survives, list-exact, list-ascending}
 use Rattle.tree.proofs.Totals.{heavy, heavy-open, survives-heavy, count-le}

@@ -8,12 +8,12 @@ use mathlib.Core.Bool.{Bool, true}
 use mathlib.Core.List.{List, [], _∷_, _++_, append-assoc, append-nil}
 use mathlib.Core.List.{List·Memᴰ·head as here}
 use lib.ListN.{length, length-append}
-use Rattle.numbers.specs.Lists.{_∈_, All, select}
+use Rattle.places.specs.Lists.{_∈_, All, select}
 use Rattle.bits.specs.Strings.{Bits, _▹_, Ascending}
 use Rattle.query.specs.Query.{OfLength, children}
 use Rattle.tree.specs.Search.{start, keptFrom, isKept, searchList, Ended}
 use Rattle.tree.specs.Cut.{prefixes}
-use Rattle.numbers.proofs.Lists.{all-map, all-mem, all-select, mem-select, all-over-map}
+use Rattle.places.proofs.Lists.{all-map, all-mem, all-select, mem-select, all-over-map}
 use Rattle.tree.proofs.Steps.{kept-nothing}
 use Rattle.query.proofs.Children.{mem-children, all-children, children-ascending, select-ascending}
 

@@ -7,7 +7,7 @@ use mathlib.Core.Bool.{Bool}
 use mathlib.Core.List.{List, [], _∷_}
 use lib.ListN.{length, length-append}
 use lib.Dec.{leb}
-use Rattle.numbers.specs.Lists.{select}
+use Rattle.places.specs.Lists.{select}
 use Rattle.bits.specs.Strings.{Bits, count}
 use Rattle.numbers.specs.Numbers.{little}
 use Rattle.bits.specs.Packing.{packedLength}
@@ -16,7 +16,7 @@ use Rattle.query.specs.Query.{OfLength, packs, query, children}
 use Rattle.tree.specs.Search.{start, totals, level, recordFrom, heading, headingLength, isKept, searchRecord, searchList}
 use Rattle.tree.specs.Cut.{honestRecord, honestList}
 use Rattle.tree.specs.Space.{levelLength, spaceFrom, recordSpace, listSpace}
-use Rattle.numbers.proofs.Lists.{select-length, number-le}
+use Rattle.places.proofs.Lists.{select-length, number-le}
 use Rattle.query.proofs.Children.{children-length, children-longer, kept-longer}
 use Rattle.query.proofs.Queries.{packs-length, query-length}
 use Rattle.tree.proofs.Kept.{list-length}

@@ -11,3 +11,5 @@ pub mod Cutting
 pub mod Records
 pub mod Demands
 pub mod Examples
+pub mod Levels
+pub mod Read

@@ -8,11 +8,11 @@ use mathlib.Core.Logic.{_↔_}
 use borrow.Author.Tests.{leb-true, leb-false}
 use lib.ListN.{length}
 use lib.Dec.{leb}
-use Rattle.numbers.specs.Lists.{select}
+use Rattle.places.specs.Lists.{select}
 use Rattle.bits.specs.Strings.{Bits}
 use Rattle.query.specs.Query.{limit, children}
 use Rattle.tree.specs.Search.{start, keptFrom, fitsFrom, isKept, searchList, searchFits}
-use Rattle.numbers.proofs.Lists.{and-left, and-right}
+use Rattle.places.proofs.Lists.{and-left, and-right}
 
 module _ (keeps : Bits → Bool) where
   -- k levels below ps, within m levels, a query passes the limit

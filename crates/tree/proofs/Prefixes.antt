@@ -9,10 +9,10 @@ use mathlib.Core.List.{List·Memᴰ·head as here, List·Memᴰ·tail as there}
 use borrow.Author.Tests.{lt-ltb, le-ltb, ltb-true}
 use lib.ListN.{length}
 use lib.Dec.{ltb}
-use Rattle.numbers.specs.Lists.{_∈_, All}
+use Rattle.places.specs.Lists.{_∈_, All}
 use Rattle.bits.specs.Strings.{Bits, isPrefix, count}
 use Rattle.tree.specs.Cut.{prefixes, first, cut}
-use Rattle.numbers.proofs.Lists.{and-left, and-right, all-map, all-mem, all-over-map}
+use Rattle.places.proofs.Lists.{and-left, and-right, all-map, all-mem, all-over-map}
 
 beq-eq : (b c : Bool) → Bool·beq b c ≡ true → b ≡ c
 beq-eq false false e = refl

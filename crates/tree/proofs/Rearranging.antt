@@ -5,7 +5,7 @@ use mathlib.Core.Path.{_≡_, refl, sym, ap, _∙_}
 use mathlib.Core.Bool.{Bool, true, false, cond}
 use mathlib.Core.List.{List, [], _∷_}
 use lib.ListN.{length}
-use Rattle.numbers.specs.Lists.{digit, All, number}
+use Rattle.places.specs.Lists.{digit, All, number}
 use Rattle.bits.specs.Strings.{Bits, Before, Ascending}
 use Rattle.tree.specs.Cut.{isSame, times, Rearranged}
 

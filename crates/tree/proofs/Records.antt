@@ -7,13 +7,13 @@ use mathlib.Core.List.{List, [], _∷_, _++_, append-assoc, append-nil, append-c
 use mathlib.Core.List.{List·Memᴰ·head as here}
 use lib.ListN.{length, take, drop}
 use lib.Seq.{take-at, drop-at}
-use Rattle.numbers.specs.Lists.{_∈_, All, select}
+use Rattle.places.specs.Lists.{_∈_, All, select}
 use Rattle.bits.specs.Strings.{Bits, _▹_}
 use Rattle.numbers.specs.Numbers.{little}
 use Rattle.numbers.proofs.Endian.{little-length, little-injective}
 use Rattle.query.specs.Query.{query, children}
 use Rattle.tree.specs.Search.{start, totals, level, keptFrom, recordFrom}
-use Rattle.numbers.proofs.Lists.{all-mem, mem-select, all-select}
+use Rattle.places.proofs.Lists.{all-mem, mem-select, all-select}
 use Rattle.query.proofs.Children.{mem-children, all-children}
 use Rattle.tree.proofs.Agree.{SameAt, kept-same, level-same}
 use Rattle.tree.proofs.Kept.{Open, open-snoc}

@@ -3,13 +3,11 @@ use Prim.Native.Nat.{ℕ, zero, suc, _+_, _-_, _≤_, _<_}
 use native.Mathlib.Omega.{arith}
 use native.Mathlib.Nat.{add-zero}
 use mathlib.Core.Path.{_≡_, refl, sym, ap, _∙_}
-use mathlib.Core.Bool.{Bool, true, _&&_}
+use mathlib.Core.Bool.{Bool, true}
 use mathlib.Core.List.{List, [], _++_, append-assoc, append-nil}
-use lib.ListN.{length}
-use lib.Dec.{leb}
-use Rattle.numbers.specs.Lists.{select}
+use Rattle.places.specs.Lists.{select}
 use Rattle.bits.specs.Strings.{Bits}
-use Rattle.query.specs.Query.{limit, children}
+use Rattle.query.specs.Query.{children}
 use Rattle.tree.specs.Search.{start, level, keptFrom, fitsFrom, recordFrom, heading, isKept, searchRecord}
 
 one-more : (n k : ℕ) → k < n → n - k ≡ suc (n - suc k)
@@ -18,12 +16,6 @@ one-more n k h = omega arith
 module _ (keeps : Bits → Bool) where
   -- one step of a loop that has k of n levels behind it, and the prefixes ps kept
   module _ (n k : ℕ) (ps : List Bits) (h : k < n) where
-    pub kept-step : keptFrom keeps (n - k) ps ≡ keptFrom keeps (n - suc k) (select keeps (children ps))
-    kept-step = rw (one-more n k h)
-
-    pub fits-step : fitsFrom keeps (n - k) ps ≡ (leb (length (children ps)) limit && fitsFrom keeps (n - suc k) (select keeps (children ps)))
-    fits-step = rw (one-more n k h)
-
     pub record-step : (T : Bits → ℕ)
         → recordFrom keeps T (n - k) k ps ≡ level T k (children ps) ++ recordFrom keeps T (n - suc k) (suc k) (select keeps (children ps))
     record-step T = rw (one-more n k h)

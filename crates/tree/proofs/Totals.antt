@@ -8,12 +8,12 @@ use mathlib.Core.List.{List, [], _∷_, _++_}
 use borrow.Author.Tests.{leb-true, le-leb}
 use lib.ListN.{length}
 use lib.Dec.{leb}
-use Rattle.numbers.specs.Lists.{digit, All, select}
+use Rattle.places.specs.Lists.{digit, All, select}
 use Rattle.bits.specs.Strings.{Bits, _▹_, isPrefix, count}
 use Rattle.query.specs.Query.{OfLength, limit, children}
 use Rattle.tree.specs.Search.{start, keptFrom, fitsFrom, searchList, searchFits}
 use Rattle.tree.specs.Cut.{honestList, honestFits}
-use Rattle.numbers.proofs.Lists.{digit-le, number-le, all-map}
+use Rattle.places.proofs.Lists.{digit-le, number-le, all-map}
 use Rattle.query.proofs.Children.{children-length}
 use Rattle.tree.proofs.Kept.{Open, open-last, Survives, survives-kept}
 

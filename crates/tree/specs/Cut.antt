@@ -5,7 +5,7 @@ use mathlib.Core.Bool.{Bool, true, false, cond, _&&_, Bool·beq}
 use mathlib.Core.List.{List, [], _∷_, map}
 use lib.ListN.{length}
 use lib.Dec.{leb, ltb}
-use Rattle.numbers.specs.Lists.{number}
+use Rattle.places.specs.Lists.{number}
 use Rattle.bits.specs.Strings.{Bits, count}
 use Rattle.tree.specs.Search.{searchRecord, searchList, searchFits}
 

@@ -5,7 +5,7 @@ use mathlib.Core.Bool.{Bool, true, _&&_}
 use mathlib.Core.List.{List, [], _∷_, _++_}
 use lib.ListN.{length}
 use lib.Dec.{leb}
-use Rattle.numbers.specs.Lists.{select}
+use Rattle.places.specs.Lists.{select}
 use Rattle.bits.specs.Strings.{Bits}
 use Rattle.numbers.specs.Numbers.{little}
 use Rattle.query.specs.Query.{query, children, limit}

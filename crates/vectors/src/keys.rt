@@ -1,7 +1,7 @@
 // Keys of chosen strings and both servers' shares of them, as lines in hexadecimal.
-use numbers::copy;
 use numbers::write_be2;
 use numbers::write_be4;
+use places::copy;
 
 // Standard output.
 const OUT: i32 = 1;

@@ -1,8 +1,8 @@
 // Whole searches: examples D to J of the sheet, and the bounds of n and t, as lines.
 use crate::keys::first_bytes;
-use numbers::copy;
-use numbers::read16;
 use numbers::write_le8;
+use places::copy;
+use places::read16;
 use search::Found;
 
 // Standard output.

@@ -1,9 +1,7 @@
 -- `capi::tally_combine` meets its contract: each case of the answer has the number, the kind and the length that combining's contract gives it.
 -- Assumes nothing.
-use mathlib.Core.Path.{sym, ap, _∙_}
 use borrow.Author.Needs.{needs}
-use Rattle.combine.specs.Answer.{numberOf, lengthOf, kindOf}
-use Rattle.capi.specs.Combined.{kindNumber}
+use Rattle.capi.proofs.Combined.{told-in-c}
 use Rattle.capi.proofs.tally_combine.Statement.{statement}
 use Rattle.capi.proofs.tally_combine.Tie as tie
 
@@ -28,8 +26,7 @@ same-length c = search needs
 returns : tie.Need-returns
 returns c =
     let e = c .before .before .before .before .before .combine .ensures in
-    let g = c .before .length .given .1 in
-    (ap numberOf (sym g) ∙ e .0, (ap kindNumber (ap kindOf (sym g) ∙ e .1 .0), (ap lengthOf (sym g) ∙ e .1 .1 .0, e .1 .1 .1)))
+    told-in-c _ _ (c .before .length .given .1) e
 
 same-length-2 : tie.Need-same-length-2
 same-length-2 c = search needs
@@ -37,8 +34,7 @@ same-length-2 c = search needs
 returns-2 : tie.Need-returns-2
 returns-2 c =
     let e = c .before .before .before .before .before .combine .ensures in
-    let g = c .before .length2 .given .1 in
-    (ap numberOf (sym g) ∙ e .0, (ap kindNumber (ap kindOf (sym g) ∙ e .1 .0), (ap lengthOf (sym g) ∙ e .1 .1 .0, e .1 .1 .1)))
+    told-in-c _ _ (c .before .length2 .given .1) e
 
 same-length-3 : tie.Need-same-length-3
 same-length-3 c = search needs
@@ -46,8 +42,7 @@ same-length-3 c = search needs
 returns-3 : tie.Need-returns-3
 returns-3 c =
     let e = c .before .before .before .before .combine .ensures in
-    let g = c .enum-told .given .1 in
-    (ap numberOf (sym g) ∙ e .0, (ap kindNumber (ap kindOf (sym g) ∙ e .1 .0), (ap lengthOf (sym g) ∙ e .1 .1 .0, e .1 .1 .1)))
+    told-in-c _ _ (c .enum-told .given .1) e
 
 same-length-4 : tie.Need-same-length-4
 same-length-4 c = search needs
@@ -55,8 +50,7 @@ same-length-4 c = search needs
 returns-4 : tie.Need-returns-4
 returns-4 c =
     let e = c .before .before .before .before .before .combine .ensures in
-    let g = c .before .number .given .1 in
-    (ap numberOf (sym g) ∙ e .0, (ap kindNumber (ap kindOf (sym g) ∙ e .1 .0), (ap lengthOf (sym g) ∙ e .1 .1 .0, e .1 .1 .1)))
+    told-in-c _ _ (c .before .number .given .1) e
 
 pub tally-combine-spec : {M : Type 1} → statement M
 tally-combine-spec =

@@ -5,12 +5,12 @@ use mathlib.Core.Path.{_≡_, sym, ap, _∙_}
 use borrow.Author.Needs.{needs}
 use lib.ListN.{length, getD}
 use Rattle.bits.specs.Packing.{packedLength}
-use Rattle.numbers.proofs.Places.{putAt-length}
+use Rattle.places.proofs.Places.{putAt-length}
 use Rattle.query.specs.Query.{limit}
 use Rattle.query.proofs.Check.{few-bytes}
 use Rattle.query.proofs.Ready.{ready as query-ready}
 use Rattle.combine.proofs.Ready.{Ready, ready}
-use Rattle.combine.proofs.Outcome.{told-lent}
+use Rattle.combine.proofs.Outcome.{told-exit, told-lent}
 use Rattle.combine.proofs.Told.{list-bytes, list-short, list-told, ended-told, too-many, next-short, children-bytes, next-told}
 use Rattle.combine.proofs.combine.Statement.{statement}
 use Rattle.combine.proofs.combine.Tie as tie
@@ -61,7 +61,8 @@ returns : tie.Need-returns
 returns c =
     let k = c .before in
     let a = k .before .before .before .before .before .args in
-    told-lent (a .n) (a .t) (a .query .now) (a .share0 .now) (a .share1 .now) (a .out .now) (k .first-cause .result) (k .first-cause .ensures) (c .if1 .taken)
+    told-exit (a .n) (a .t) (a .query .now) (a .share0 .now) (a .share1 .now) (a .out .now) _ _
+    (told-lent (a .n) (a .t) (a .query .now) (a .share0 .now) (a .share1 .now) (a .out .now) (k .first-cause .result) (k .first-cause .ensures) (c .if1 .taken))
 
 prefix-length-requires : tie.Need-prefix-length-requires
 prefix-length-requires c κs = search needs
@@ -86,12 +87,13 @@ returns-2 c =
     let k = w .before .before in
     let e = k .before .before in
     let a = start e .args in
-    list-short (a .n) (a .t) (a .query .now) (a .share0 .now) (a .share1 .now) (a .out .now) (byte e) (all-well e)
+    told-exit (a .n) (a .t) (a .query .now) (a .share0 .now) (a .share1 .now) (a .out .now) _ _
+    (list-short (a .n) (a .t) (a .query .now) (a .share0 .now) (a .share1 .now) (a .out .now) (byte e) (all-well e)
     (k .count-kept .result) (k .count-kept .ensures .0) (k .before .prefix-length .result) (k .before .prefix-length .ensures .0)
-    (w .before .if2 .taken) (w .packed-length .result) (w .packed-length .ensures) (c .if3 .taken)
+    (w .before .if2 .taken) (w .packed-length .result) (w .packed-length .ensures) (c .if3 .taken))
 
-write-list-requires : tie.Need-write-list-requires
-write-list-requires c κs =
+write-kept-requires : tie.Need-write-kept-requires
+write-kept-requires c κs =
     let w = c .before .before in
     let k = w .before .before in
     let e = k .before .before in
@@ -102,7 +104,7 @@ write-list-requires c κs =
     list-bytes (a .n) (a .t) (a .query .now) (a .share0 .now) (a .share1 .now) (a .out .now) (byte e) (all-well e)
     (k .count-kept .result) (k .count-kept .ensures .0) (k .before .prefix-length .result) (k .before .prefix-length .ensures .0)
     (w .before .if2 .taken) (w .packed-length .result) (w .packed-length .ensures) in
-    ((omega (arith, q .whole), q .no-spares), ((r .first, r .second), omega (arith, size, c .before .if3 .left)))
+    (omega (arith, q .whole), (q .no-spares, ((r .first, r .second), omega (arith, size, c .before .if3 .left))))
 
 same-length : tie.Need-same-length
 same-length c = search needs
@@ -114,27 +116,30 @@ returns-3 c =
     let k = w .before .before in
     let e = k .before .before in
     let a = start e .args in
-    list-told (a .n) (a .t) (a .query .now) (a .share0 .now) (a .share1 .now) (a .out .now) (byte e) (all-well e)
+    told-exit (a .n) (a .t) (a .query .now) (a .share0 .now) (a .share1 .now) (a .out .now) _ _
+    (list-told (a .n) (a .t) (a .query .now) (a .share0 .now) (a .share1 .now) (a .out .now) (byte e) (all-well e)
     (k .count-kept .result) (k .count-kept .ensures .0) (k .before .prefix-length .result) (k .before .prefix-length .ensures .0)
-    (w .before .if2 .taken) (w .packed-length .result) (w .packed-length .ensures) (f .if3 .left) _ (c .before .before .write-list .ensures)
+    (w .before .if2 .taken) (w .packed-length .result) (w .packed-length .ensures) (f .if3 .left) _ (c .before .before .write-kept .ensures))
 
 returns-4 : tie.Need-returns-4
 returns-4 c =
     let k = c .before .before in
     let e = k .before .before in
     let a = start e .args in
-    ended-told (a .n) (a .t) (a .query .now) (a .share0 .now) (a .share1 .now) (a .out .now) (byte e) (all-well e)
+    told-exit (a .n) (a .t) (a .query .now) (a .share0 .now) (a .share1 .now) (a .out .now) _ _
+    (ended-told (a .n) (a .t) (a .query .now) (a .share0 .now) (a .share1 .now) (a .out .now) (byte e) (all-well e)
     (k .count-kept .result) (k .count-kept .ensures .0) (k .before .prefix-length .result) (k .before .prefix-length .ensures .0)
-    (c .before .if2 .left) (c .if4 .taken)
+    (c .before .if2 .left) (c .if4 .taken))
 
 returns-5 : tie.Need-returns-5
 returns-5 c =
     let k = c .before .before .before in
     let e = k .before .before in
     let a = start e .args in
-    too-many (a .n) (a .t) (a .query .now) (a .share0 .now) (a .share1 .now) (a .out .now) (byte e) (all-well e)
+    told-exit (a .n) (a .t) (a .query .now) (a .share0 .now) (a .share1 .now) (a .out .now) _ _
+    (too-many (a .n) (a .t) (a .query .now) (a .share0 .now) (a .share1 .now) (a .out .now) (byte e) (all-well e)
     (k .count-kept .result) (k .count-kept .ensures .0) (k .before .prefix-length .result) (k .before .prefix-length .ensures .0)
-    (c .before .before .if2 .left) (c .before .if4 .left) (c .if5 .taken)
+    (c .before .before .if2 .left) (c .before .if4 .left) (c .if5 .taken))
 
 mul-next-size : tie.Need-mul-next-size
 mul-next-size c = search needs
@@ -154,9 +159,10 @@ returns-6 c =
     let k = w .before .before .before .before in
     let e = k .before .before in
     let a = start e .args in
-    next-short (a .n) (a .t) (a .query .now) (a .share0 .now) (a .share1 .now) (a .out .now) (byte e) (all-well e)
+    told-exit (a .n) (a .t) (a .query .now) (a .share0 .now) (a .share1 .now) (a .out .now) _ _
+    (next-short (a .n) (a .t) (a .query .now) (a .share0 .now) (a .share1 .now) (a .out .now) (byte e) (all-well e)
     (k .count-kept .result) (k .count-kept .ensures .0) (k .before .prefix-length .result) (k .before .prefix-length .ensures .0)
-    (w .before .before .before .if2 .left) (w .before .before .if4 .left) (w .packed-length2 .result) (child w) (c .if6 .taken)
+    (w .before .before .before .if2 .left) (w .before .before .if4 .left) (w .packed-length2 .result) (child w) (c .if6 .taken))
 
 mul-write-heading : tie.Need-mul-write-heading
 mul-write-heading c = search needs
@@ -164,8 +170,8 @@ mul-write-heading c = search needs
 write-heading-requires : tie.Need-write-heading-requires
 write-heading-requires c κs = search needs
 
-write-children-requires : tie.Need-write-children-requires
-write-children-requires c κs =
+write-kept-requires-2 : tie.Need-write-kept-requires-2
+write-kept-requires-2 c κs =
     let f = c .before .before .before .before .before in
     let w = f .before in
     let k = w .before .before .before .before in
@@ -178,7 +184,7 @@ write-children-requires c κs =
     (k .count-kept .result) (k .count-kept .ensures .0) (k .before .prefix-length .result) (k .before .prefix-length .ensures .0)
     (w .before .before .before .if2 .left) (w .before .before .if4 .left) (w .packed-length2 .result) (child w) in (
       omega (arith, query-ready (a .n) (a .query .now) (r .a-query) .whole),
-      ((r .first, r .second), omega (arith, size, f .if6 .left, simp putAt-length at (ap length (h .ensures)))),
+      (query-ready (a .n) (a .query .now) (r .a-query) .no-spares, ((r .first, r .second), omega (arith, size, f .if6 .left, simp putAt-length at (ap length (h .ensures))))),
     )
 
 same-length-2 : tie.Need-same-length-2
@@ -192,10 +198,11 @@ returns-7 c =
     let k = w .before .before .before .before in
     let e = k .before .before in
     let a = start e .args in
-    next-told (a .n) (a .t) (a .query .now) (a .share0 .now) (a .share1 .now) (a .out .now) (byte e) (all-well e)
+    told-exit (a .n) (a .t) (a .query .now) (a .share0 .now) (a .share1 .now) (a .out .now) _ _
+    (next-told (a .n) (a .t) (a .query .now) (a .share0 .now) (a .share1 .now) (a .out .now) (byte e) (all-well e)
     (k .count-kept .result) (k .count-kept .ensures .0) (k .before .prefix-length .result) (k .before .prefix-length .ensures .0)
     (w .before .before .before .if2 .left) (w .before .before .if4 .left) (w .packed-length2 .result) (child w) (w .before .if5 .left) (f .if6 .left) _ _
-    (h .write-heading .ensures) (c .before .before .write-children .ensures)
+    (h .write-heading .ensures) (c .before .before .write-kept2 .ensures))
 
 pub combine-spec : {M : Type 1} → statement M
 combine-spec =
@@ -209,7 +216,7 @@ combine-spec =
     packed-length-requires
     mul-list-size
     returns-2
-    write-list-requires
+    write-kept-requires
     same-length
     returns-3
     returns-4
@@ -221,6 +228,6 @@ combine-spec =
     returns-6
     mul-write-heading
     write-heading-requires
-    write-children-requires
+    write-kept-requires-2
     same-length-2
     returns-7)

@@ -1,7 +1,9 @@
 -- `exam::reply` meets its contract: what `respond` wrote is within the space. Assumes nothing.
+use mathlib.Core.Path.{ap}
 use borrow.Author.Needs.{needs}
 use Rattle.io.proofs.Counting.{counts}
-use Rattle.exam_text.proofs.Inside.{inside}
+use Rattle.calls.specs.Outcome.{Exit}
+use Rattle.exam_answering.proofs.Inside.{inside}
 use Rattle.exam.proofs.reply.Statement.{statement}
 use Rattle.exam.proofs.reply.Tie as tie
 
@@ -15,10 +17,10 @@ respond-requires : tie.Need-respond-requires
 respond-requires c κs = search needs
 
 array-share-prefix-out : tie.Need-array-share-prefix-out
-array-share-prefix-out c = let r = c .before .respond in inside _ _ _ _ (r .ensures .1 .0) (r .ensures .1 .1)
+array-share-prefix-out c = let r = c .before .respond in inside _ _ _ _ (ap (λ (x : Exit). x .length) (r .ensures)) (ap (λ (x : Exit). x .space) (r .ensures))
 
 slice-aggregate-put : tie.Need-slice-aggregate-put
-slice-aggregate-put c = let r = c .before .before .respond in counts _ _ (inside _ _ _ _ (r .ensures .1 .0) (r .ensures .1 .1)) .1
+slice-aggregate-put c = let r = c .before .before .respond in counts _ _ (inside _ _ _ _ (ap (λ (x : Exit). x .length) (r .ensures)) (ap (λ (x : Exit). x .space) (r .ensures))) .1
 
 put-requires : tie.Need-put-requires
 put-requires c κs = search needs

@@ -1,7 +1,9 @@
 -- `exam_sheets::show` meets its contract: what `answer` wrote is within the space. Assumes nothing.
+use mathlib.Core.Path.{ap}
 use borrow.Author.Needs.{needs}
 use Rattle.io.proofs.Counting.{counts}
-use Rattle.exam_text.proofs.Inside.{inside}
+use Rattle.calls.specs.Outcome.{Exit}
+use Rattle.exam_answering.proofs.Inside.{inside}
 use Rattle.exam_sheets.proofs.show.Statement.{statement}
 use Rattle.exam_sheets.proofs.show.Tie as tie
 
@@ -24,10 +26,10 @@ write-all-requires : tie.Need-write-all-requires
 write-all-requires c κs = search needs
 
 array-share-prefix-out : tie.Need-array-share-prefix-out
-array-share-prefix-out c = let r = c .before .before .before .before .answer in inside _ _ _ _ (r .ensures .1 .0) (r .ensures .1 .1)
+array-share-prefix-out c = let r = c .before .before .before .before .answer in inside _ _ _ _ (ap (λ (x : Exit). x .length) (r .ensures)) (ap (λ (x : Exit). x .space) (r .ensures))
 
 slice-aggregate-write-all-2 : tie.Need-slice-aggregate-write-all-2
-slice-aggregate-write-all-2 c = let r = c .before .before .before .before .before .answer in counts _ _ (inside _ _ _ _ (r .ensures .1 .0) (r .ensures .1 .1)) .1
+slice-aggregate-write-all-2 c = let r = c .before .before .before .before .before .answer in counts _ _ (inside _ _ _ _ (ap (λ (x : Exit). x .length) (r .ensures)) (ap (λ (x : Exit). x .space) (r .ensures))) .1
 
 write-all-requires-2 : tie.Need-write-all-requires-2
 write-all-requires-2 c κs = search needs

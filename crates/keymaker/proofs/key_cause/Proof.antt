@@ -1,31 +1,60 @@
--- `keymaker::key_cause` meets its contract. Assumes nothing.
-use mathlib.Core.Path.{ap, _∙_}
-use mathlib.Core.Bool.{not}
-use lib.Dec.{ltb}
-use Rattle.calls.proofs.Decisions.{below-bounds, above-bounds}
-use Rattle.keymaker.proofs.KeyCauses.{cause-1, other-cause}
+-- `keymaker::key_cause` meets its contract. Each test is that of its cause, and those before it have failed. Assumes nothing.
+use native.Mathlib.Omega.{arith}
+use mathlib.Core.Path.{_≡_, sym, _∙_}
+use mathlib.Core.Bool.{true, false, not, _||_}
 use borrow.Author.Needs.{needs}
+use borrow.Author.Tests.{not-true, not-false, lt-ltb, le-ltb}
+use lib.ListN.{length}
+use lib.Dec.{eqb}
+use Rattle.bits.specs.Packing.{packedLength, spareZero}
+use Rattle.calls.specs.Bounds.{mostBits, outside}
+use Rattle.expander.specs.Expander.{isExpander}
+use Rattle.calls.proofs.Decisions.{bounds}
 use Rattle.keymaker.proofs.key_cause.Statement.{statement}
 use Rattle.keymaker.proofs.key_cause.Tie as tie
 
+-- ---- what has been tested
+
+abbrev begin : tie.Else1 → tie.Start
+begin c = c .before .before .before .before .before
+
+length-right : (c : tie.Else1) → outside mostBits (begin c .args .n) ≡ false
+length-right c = sym (c .before .length-outside .ensures) ∙ c .if1 .left
+
+expander-right : (c : tie.Else2) → isExpander (begin (c .before .before) .args .expander) ≡ true
+expander-right c = sym (c .before .is-expander .ensures) ∙ not-false _ (c .if2 .left)
+
+lengths-right : (c : tie.Else3) → let a = begin (c .before .before .before .before) .args in
+    (not (eqb (length (a .string .now)) (packedLength (a .n))) || (not (eqb (length (a .seed0 .now)) 16) || not (eqb (length (a .seed1 .now)) 16))) ≡ false
+lengths-right c = sym (c .before .wrong-lengths .ensures) ∙ c .if3 .left
+
+spare-right : (c : tie.Else4) → let a = begin (c .before .before .before .before .before .before) .args in spareZero (a .n) (a .string .now) ≡ true
+spare-right c = sym (c .before .spare-zero .ensures) ∙ not-false _ (c .if4 .left)
+
+-- ---- the needs
+
+length-outside-requires : tie.Need-length-outside-requires
+length-outside-requires c κs = search needs
+
 returns : tie.Need-returns
-returns c =
-    let a = c .before .before .before .before .args in
-    cause-1 (a .n) (a .expander) (a .string .now) (a .seed0 .now) (a .seed1 .now) (a .room) (below-bounds 256 (a .n) (c .if1 .taken))
-
-returns-2 : tie.Need-returns-2
-returns-2 c =
-    let a = c .before .before .before .before .before .args in
-    cause-1 (a .n) (a .expander) (a .string .now) (a .seed0 .now) (a .seed1 .now) (a .room) (above-bounds 256 (a .n) (c .before .if1 .left) (c .if2 .taken))
-
-cast-levels : tie.Need-cast-levels
-cast-levels c = search needs
+returns c = let h = sym (c .before .length-outside .ensures) ∙ c .if1 .taken in rw h
 
 is-expander-requires : tie.Need-is-expander-requires
 is-expander-requires c κs = search needs
 
+returns-2 : tie.Need-returns-2
+returns-2 c = let h = sym (c .before .is-expander .ensures) ∙ not-true _ (c .if2 .taken) in rw (length-right (c .before .before), h)
+
+cast-levels : tie.Need-cast-levels
+cast-levels c = let e = c .before .before in omega (arith, bounds mostBits (begin e .args .n) (length-right e) .1)
+
 wrong-lengths-requires : tie.Need-wrong-lengths-requires
 wrong-lengths-requires c κs = search needs
+
+returns-3 : tie.Need-returns-3
+returns-3 c =
+    let h = sym (c .before .wrong-lengths .ensures) ∙ c .if3 .taken in
+    rw (length-right (c .before .before .before .before), expander-right (c .before .before), h)
 
 cast-spare-zero : tie.Need-cast-spare-zero
 cast-spare-zero c = search needs
@@ -33,30 +62,41 @@ cast-spare-zero c = search needs
 spare-zero-requires : tie.Need-spare-zero-requires
 spare-zero-requires c κs = search needs
 
+returns-4 : tie.Need-returns-4
+returns-4 c =
+    let h = sym (c .before .spare-zero .ensures) ∙ not-true _ (c .if4 .taken) in
+    let e = c .before .before in
+    rw (length-right (e .before .before .before .before), expander-right (e .before .before), lengths-right e, h)
+
 public-share-length-requires : tie.Need-public-share-length-requires
 public-share-length-requires c κs = search needs
 
-first-cause-requires : tie.Need-first-cause-requires
-first-cause-requires c κs = search needs
+returns-5 : tie.Need-returns-5
+returns-5 c =
+    let e = c .before .before in
+    let d = e .before .before in
+    rw (length-right (d .before .before .before .before), expander-right (d .before .before), lengths-right d, spare-right e, ← c .before .public-share-length .ensures, lt-ltb _ _ (c .if5 .taken))
 
-returns-3 : tie.Need-returns-3
-returns-3 c =
-    let a = c .before .before .before .before .before .before .before .before .before .before .args in
-    c .first-cause .ensures
-    ∙ other-cause (a .n) (a .expander) (a .string .now) (a .seed0 .now) (a .seed1 .now) (a .room) (c .before .before .before .before .before .before .if1 .left) (c .before .before .before .before .before .if2 .left)
-    (ap not (c .before .before .before .before .is-expander .ensures)) (c .before .before .before .wrong-lengths .ensures) (ap not (c .before .before .spare-zero .ensures)) (ap (ltb (a .room)) (c .before .public-share-length .ensures))
+returns-6 : tie.Need-returns-6
+returns-6 c =
+    let e = c .before .before in
+    let d = e .before .before in
+    rw (length-right (d .before .before .before .before), expander-right (d .before .before), lengths-right d, spare-right e, ← c .before .public-share-length .ensures, le-ltb _ _ (c .if5 .left))
 
 pub key-cause-spec : {M : Type 1} → statement M
 key-cause-spec =
     tie.close
     (tie.spec
+    length-outside-requires
     returns
+    is-expander-requires
     returns-2
     cast-levels
-    is-expander-requires
     wrong-lengths-requires
+    returns-3
     cast-spare-zero
     spare-zero-requires
+    returns-4
     public-share-length-requires
-    first-cause-requires
-    returns-3)
+    returns-5
+    returns-6)

@@ -5,12 +5,12 @@ use mathlib.Core.List.{List}
 use Prim.Native.Nat.{ℕ}
 use native.Mathlib.Omega.{arith}
 use lib.ListN.{length}
-use Rattle.numbers.specs.Numbers.{Bytes}
-use Rattle.numbers.specs.Places.{overlay}
-use Rattle.numbers.proofs.Places.{window-bytes, window-whole, overlay-nil}
+use Rattle.places.specs.Places.{Bytes, overlay}
+use Rattle.places.proofs.Places.{window-bytes, window-whole, overlay-nil}
+use Rattle.calls.proofs.Judged.{exit-equal}
 use Rattle.expander.proofs.Chosen.{unknown}
 use Rattle.keymaker.specs.Key.{keyBytes}
-use Rattle.keymaker.proofs.KeyCauses.{Ready, nothing-written, ready, key-accepted}
+use Rattle.keymaker.proofs.KeyCauses.{Ready, due-number, nothing-written, ready, key-accepted}
 use Rattle.keymaker.proofs.KeyMaker.{key-length}
 use borrow.Author.Needs.{needs}
 use Rattle.keymaker.proofs.make_key.Statement.{statement}
@@ -20,7 +20,7 @@ use Rattle.keymaker.proofs.make_key.Tie as tie
 clear : (c : tie.Else1) → let a = c .before .before .before .before .before .before .args in Ready (a .n) (a .expander) (a .string .now) (a .seed0 .now) (a .seed1 .now) (length (a .out .now))
 clear c =
     let a = c .before .before .before .before .before .before .args in
-    ready (a .n) (a .expander) (a .string .now) (a .seed0 .now) (a .seed1 .now) (length (a .out .now)) (sym (c .before .key-cause .ensures) ∙ c .if1 .left)
+    ready (a .n) (a .expander) (a .string .now) (a .seed0 .now) (a .seed1 .now) (length (a .out .now)) (due-number (a .n) (a .expander) (a .string .now) (a .seed0 .now) (a .seed1 .now) (length (a .out .now)) ∙ sym (c .before .key-cause .ensures) ∙ c .if1 .left)
 
 key-cause-requires : tie.Need-key-cause-requires
 key-cause-requires c κs = search needs
@@ -28,9 +28,9 @@ key-cause-requires c κs = search needs
 returns : tie.Need-returns
 returns c =
     let a = c .before .before .before .before .before .before .args in
-    let k = c .before .key-cause .ensures in
+    let k = c .before .key-cause .ensures ∙ sym (due-number (a .n) (a .expander) (a .string .now) (a .seed0 .now) (a .seed1 .now) (length (a .out .now))) in
     let w = nothing-written (a .n) (a .expander) (a .string .now) (a .seed0 .now) (a .seed1 .now) (length (a .out .now)) (λ q. c .if1 .taken (k ∙ q)) in
-    (k, (sym (ap length w), sym (ap (λ (v : List ℕ). overlay v (a .out .now)) w ∙ overlay-nil (a .out .now))))
+    exit-equal k (sym (ap length w)) (sym (ap (λ (v : List ℕ). overlay v (a .out .now)) w ∙ overlay-nil (a .out .now)))
 
 choose-requires : tie.Need-choose-requires
 choose-requires c κs = search needs
@@ -74,15 +74,13 @@ returns-2 c =
     let x = c .before .before .before .before .before .before .before .before .e .given .0 .0 in
     let b0 : Bytes 16 (a .seed0 .now) = record { size = r .seed0-length; byte = λ i. c .before .before .before .before .before .before .before .before .before .before .before .before .before .before .before .shared-slice-known2 .given i .fits } in
     let b1 : Bytes 16 (a .seed1 .now) = record { size = r .seed1-length; byte = λ i. c .before .before .before .before .before .before .before .before .before .before .before .before .before .before .shared-slice-known3 .given i .fits } in
-    rw (key-accepted (a .n) (a .expander) (a .string .now) (a .seed0 .now) (a .seed1 .now) (length (a .out .now)) x (sym (c .before .before .before .before .before .before .before .before .before .before .choose .ensures) ∙ c .before .before .before .before .before .before .before .before .e .given .1) r) (
-      refl,
-      (
-        c .public-share-length .ensures ∙ sym (key-length x (a .n) (a .string .now) (a .seed0 .now) (a .seed1 .now) b0 b1),
-        c .before .before .before .write-key .ensures
-            ∙ ap₂ (λ (s t : List ℕ). overlay (keyBytes (a .n) (a .string .now) s t x) (a .out .now))
-            (c .before .before .before .before .before .before .read16 .ensures ∙ window-whole 16 (a .seed0 .now) (r .seed0-length)) (c .before .before .before .before .before .read162 .ensures ∙ window-whole 16 (a .seed1 .now) (r .seed1-length)),
-      ),
-    )
+    rw (key-accepted (a .n) (a .expander) (a .string .now) (a .seed0 .now) (a .seed1 .now) (length (a .out .now)) x (sym (c .before .before .before .before .before .before .before .before .before .before .choose .ensures) ∙ c .before .before .before .before .before .before .before .before .e .given .1) r)
+    (exit-equal
+    refl
+    (c .public-share-length .ensures ∙ sym (key-length x (a .n) (a .string .now) (a .seed0 .now) (a .seed1 .now) b0 b1))
+    (c .before .before .before .write-key .ensures
+    ∙ ap₂ (λ (s t : List ℕ). overlay (keyBytes (a .n) (a .string .now) s t x) (a .out .now))
+    (c .before .before .before .before .before .before .read16 .ensures ∙ window-whole 16 (a .seed0 .now) (r .seed0-length)) (c .before .before .before .before .before .read162 .ensures ∙ window-whole 16 (a .seed1 .now) (r .seed1-length))))
 
 returns-3 : tie.Need-returns-3
 returns-3 c =

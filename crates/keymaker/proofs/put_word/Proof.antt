@@ -5,9 +5,9 @@ use Prim.Native.Nat.{ℕ, _+_}
 use native.Mathlib.Omega.{arith}
 use lib.ListN.{length, length-map}
 use Rattle.numbers.specs.Numbers.{little}
-use Rattle.numbers.specs.Places.{putAt}
+use Rattle.places.specs.Places.{putAt}
 use Rattle.numbers.proofs.Endian.{little-length}
-use Rattle.numbers.proofs.Places.{putAt-more}
+use Rattle.places.proofs.Places.{putAt-more}
 use Rattle.point.specs.PublicShare.{levelBytes}
 use borrow.Author.Needs.{needs}
 use Rattle.keymaker.proofs.put_word.Statement.{statement}

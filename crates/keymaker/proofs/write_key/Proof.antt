@@ -3,7 +3,7 @@ use mathlib.Core.Path.{_≡_, ap, _∙_}
 use Prim.Native.Nat.{ℕ, _-_}
 use native.Mathlib.Omega.{arith}
 use lib.ListN.{length, length-set}
-use Rattle.numbers.specs.Places.{putAt}
+use Rattle.places.specs.Places.{putAt}
 use Rattle.point.specs.PublicShare.{levelBytes}
 use Rattle.nodes.specs.Layout.{nodeOf, correctionOf}
 use Rattle.keymaker.proofs.KeyMaker.{Standing, standing-start, standing-more, standing-end}

@@ -2,7 +2,7 @@
 use mathlib.Core.Path.{ap, _∙_}
 use Prim.Native.Nat.{ℕ, _%_}
 use Rattle.numbers.specs.Numbers.{fromLittle}
-use Rattle.numbers.proofs.Places.{window-inside}
+use Rattle.places.proofs.Places.{window-inside}
 use Rattle.group.specs.Modular.{p}
 use native.Mathlib.Omega.{arith}
 use borrow.Author.Needs.{needs}

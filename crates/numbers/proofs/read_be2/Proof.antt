@@ -5,7 +5,8 @@ use native.Mathlib.Omega.{arith}
 use denote.Ref.{now}
 use lib.ListN.{length}
 use Rattle.numbers.specs.Numbers.{fromBig}
-use Rattle.numbers.proofs.Straight.{inside, outside, big-outside, window-reads}
+use Rattle.places.proofs.Inside.{inside, outside}
+use Rattle.numbers.proofs.Straight.{big-outside, window-reads}
 use Rattle.numbers.proofs.read_be2.Statement.{statement}
 use Rattle.numbers.proofs.read_be2.Tie as tie
 

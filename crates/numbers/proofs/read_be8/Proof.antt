@@ -4,7 +4,8 @@ use Prim.Native.Nat.{_+_, _≤_}
 use native.Mathlib.Omega.{arith}
 use denote.Ref.{now}
 use lib.ListN.{length}
-use Rattle.numbers.proofs.Straight.{inside, outside, big-outside, big-halves}
+use Rattle.places.proofs.Inside.{inside, outside}
+use Rattle.numbers.proofs.Straight.{big-outside, big-halves}
 use Rattle.numbers.proofs.read_be8.Statement.{statement}
 use Rattle.numbers.proofs.read_be8.Tie as tie
 

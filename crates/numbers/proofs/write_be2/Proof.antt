@@ -7,8 +7,9 @@ use mathlib.Core.Path.{sym}
 use denote.Ref.{now}
 use lib.ListN.{length, length-set}
 use Rattle.numbers.specs.Numbers.{big}
-use Rattle.numbers.proofs.Places.{putAt-outside}
-use Rattle.numbers.proofs.Straight.{inside, outside, stored}
+use Rattle.places.proofs.Places.{putAt-outside}
+use Rattle.places.proofs.Inside.{inside, outside}
+use Rattle.numbers.proofs.Straight.{stored}
 use Rattle.numbers.proofs.write_be2.Statement.{statement}
 use Rattle.numbers.proofs.write_be2.Tie as tie
 

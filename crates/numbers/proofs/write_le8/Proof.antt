@@ -6,8 +6,9 @@ use mathlib.Core.Path.{sym}
 use denote.Ref.{now}
 use lib.ListN.{length}
 use Rattle.numbers.specs.Numbers.{little}
-use Rattle.numbers.proofs.Places.{putAt-outside}
-use Rattle.numbers.proofs.Straight.{inside, outside, put-little-halves}
+use Rattle.places.proofs.Places.{putAt-outside}
+use Rattle.places.proofs.Inside.{inside, outside}
+use Rattle.numbers.proofs.Straight.{put-little-halves}
 use Rattle.numbers.proofs.write_le8.Statement.{statement}
 use Rattle.numbers.proofs.write_le8.Tie as tie
 

@@ -1,10 +1,10 @@
 -- `search::search` meets its contract: a cause of what is lent refuses it; where none applies the expander is known, and the levels decide. Assumes nothing.
+use Prim.Native.Nat.{_-_}
 use native.Mathlib.Omega.{arith}
 use mathlib.Core.Path.{_≡_, sym, _∙_}
 use borrow.Author.Needs.{needs}
 use Rattle.calls.specs.Causes.{numberDue}
-use Rattle.search.specs.Search.{Lent, lent}
-use Rattle.search.proofs.Judging.{before}
+use Rattle.search.specs.Search.{Lent, lent, lentCauses}
 use Rattle.search.proofs.Closing.{refused, within-bounds, never-unknown, settled}
 use Rattle.search.proofs.search.Statement.{statement}
 use Rattle.search.proofs.search.Tie as tie
@@ -19,7 +19,7 @@ lend f =
     lent (a .n) (a .t) (a .expander) (a .seeds0 .now) (a .public-shares0 .now) (a .seeds1 .now) (a .public-shares1 .now) (a .«record» .now) (a .list .now)
 
 -- no cause of what is lent applies
-clear : (c : tie.Else1) → numberDue (before (lend (c .before))) ≡ 0
+clear : (c : tie.Else1) → numberDue (lentCauses (lend (c .before))) ≡ 0
 clear c = sym (c .before .first-cause .ensures) ∙ c .if1 .left
 
 first-cause-requires : tie.Need-first-cause-requires
@@ -34,13 +34,18 @@ choose-requires c κs = search needs
 enum-known-e : tie.Need-enum-known-e
 enum-known-e c = search needs
 
+sub-run : tie.Need-sub-run
+sub-run c =
+    let i = c .before .before .before .before in
+    omega (arith, within-bounds (lend (i .before)) (clear i) .0)
+
 cast-run : tie.Need-cast-run
 cast-run c =
     let i = c .before .before .before .before in
-    omega (arith, within-bounds (lend (i .before)) (clear i) .1)
+    omega (arith, within-bounds (lend (i .before)) (clear i))
 
 run-requires : tie.Need-run-requires
-run-requires c κs = let i = c .before .before .before .before .before .before in within-bounds (lend (i .before)) (clear i)
+run-requires c κs = search needs
 
 enum-told : tie.Need-enum-told
 enum-told c = search needs
@@ -57,7 +62,9 @@ returns-2 c =
     let x = r .before .before .before .before in
     let h = x .before .before in
     let i = h .before in
-    settled (lend (i .before)) (x .e .given .0 .0) (sym (h .choose .ensures) ∙ x .e .given .1) (clear i) _ _ _ _ _ (r .run .ensures .1) (r .run .ensures .0)
+    let n = start (i .before) .args .n in
+    settled (lend (i .before)) (clear i) (x .e .given .0 .0) (sym (h .choose .ensures) ∙ x .e .given .1) (n - 1) _ _ _ _ _
+    (omega (arith, within-bounds (lend (i .before)) (clear i) .0)) (r .run .ensures)
 
 returns-3 : tie.Need-returns-3
 returns-3 c =
@@ -73,6 +80,7 @@ search-spec =
     returns
     choose-requires
     enum-known-e
+    sub-run
     cast-run
     run-requires
     enum-told

@@ -1,6 +1,6 @@
 -- `aes::sbox::table` meets its contract. The table is the affine map at each inverse, which is computed. Assumes nothing.
 use Rattle.aes.proofs.Computes.{computes}
-use Rattle.aes.proofs.Inverse.{inverses}
+use Rattle.gf256.proofs.Inverse.{inverses}
 use Rattle.aes.proofs.SBoxTable.{table-rule}
 use Rattle.aes.proofs.sbox.table.Statement.{statement}
 use Rattle.aes.proofs.sbox.table.Tie as tie

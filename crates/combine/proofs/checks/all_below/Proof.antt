@@ -7,12 +7,13 @@ use borrow.Author.Needs.{needs}
 use lib.ListN.{length}
 use Rattle.combine.specs.Answer.{numbers}
 use Rattle.combine.specs.Combine.{allBelow}
-use Rattle.combine.proofs.Numbers.{numbersFrom, below-yes, below-no, below-none}
+use Rattle.query.proofs.Pieces.{numbersAt}
+use Rattle.combine.proofs.Numbers.{below-yes, below-no, below-none}
 use Rattle.combine.proofs.checks.all_below.Statement.{statement}
 use Rattle.combine.proofs.checks.all_below.Tie as tie
 
 abbrev Inv-loop : tie.InvT-loop
-Inv-loop share left₀ place₀ left place = (place + 8 * left ≤ length share) × (allBelow (numbers share) ≡ allBelow (numbersFrom left place share))
+Inv-loop share left₀ place₀ left place = (place + 8 * left ≤ length share) × (allBelow (numbers share) ≡ allBelow (numbersAt left place share))
 
 abbrev μ-loop : tie.MeasureT-loop
 μ-loop share left₀ place₀ left place = left

@@ -3,8 +3,7 @@ use mathlib.Core.Path.{_≡_, sym, _∙_}
 use mathlib.Core.Bool.{true, false, _&&_}
 use borrow.Author.Needs.{needs}
 use borrow.Author.Tests.{not-true, not-false}
-use Rattle.calls.specs.Bounds.{lengthOutside, thresholdOutside}
-use Rattle.calls.proofs.Decisions.{in-bounds, below-bounds, above-bounds}
+use Rattle.calls.specs.Bounds.{mostBits, mostThreshold, outside}
 use Rattle.combine.specs.Answer.{numbers}
 use Rattle.combine.specs.Combine.{wrongShares, allBelow}
 use Rattle.combine.proofs.Outcome.{cause-1, cause-2, cause-4, cause-6, cause-9, no-cause}
@@ -13,52 +12,48 @@ use Rattle.combine.proofs.checks.first_cause.Tie as tie
 
 -- ---- the tests that were passed
 
+abbrev start₁ : tie.Else1 → tie.Start
+start₁ c = c .before .before .before .before .before
+
 abbrev start₂ : tie.Else2 → tie.Start
-start₂ c = c .before .before .before .before .before
+start₂ c = start₁ (c .before .before)
+
+abbrev start₃ : tie.Else3 → tie.Start
+start₃ c = start₂ (c .before .before .before .before)
 
 abbrev start₄ : tie.Else4 → tie.Start
-start₄ c = start₂ (c .before .before)
+start₄ c = start₃ (c .before)
 
-abbrev start₅ : tie.Else5 → tie.Start
-start₅ c = start₄ (c .before .before .before .before)
+bounds : (c : tie.Else1) → outside mostBits (start₁ c .args .n) ≡ false
+bounds c = sym (c .before .length-outside .ensures) ∙ c .if1 .left
 
-abbrev start₆ : tie.Else6 → tie.Start
-start₆ c = start₅ (c .before)
+threshold : (c : tie.Else2) → outside mostThreshold (start₂ c .args .t) ≡ false
+threshold c = sym (c .before .threshold-outside .ensures) ∙ c .if2 .left
 
-bounds : (c : tie.Else2) → lengthOutside (start₂ c .args .n) ≡ false
-bounds c = in-bounds 256 (start₂ c .args .n) (c .before .if1 .left) (c .if2 .left)
+lengths : (c : tie.Else3) → wrongShares (start₃ c .args .n) (start₃ c .args .query .now) (start₃ c .args .share0 .now) (start₃ c .args .share1 .now) ≡ false
+lengths c = rw (← c .before .before .before .is-query .ensures) (sym (c .before .wrong-shares .ensures) ∙ c .if3 .left)
 
-threshold : (c : tie.Else4) → thresholdOutside (start₄ c .args .t) ≡ false
-threshold c = in-bounds 65535 (start₄ c .args .t) (c .before .if3 .left) (c .if4 .left)
-
-lengths : (c : tie.Else5) → wrongShares (start₅ c .args .n) (start₅ c .args .query .now) (start₅ c .args .share0 .now) (start₅ c .args .share1 .now) ≡ false
-lengths c = rw (← c .before .before .before .is-query .ensures) (sym (c .before .wrong-shares .ensures) ∙ c .if5 .left)
-
-below : (c : tie.Else6) → (allBelow (numbers (start₆ c .args .share0 .now)) && allBelow (numbers (start₆ c .args .share1 .now))) ≡ true
-below c = sym (c .before .before .before .both-below .ensures) ∙ not-false _ (c .if6 .left)
+below : (c : tie.Else4) → (allBelow (numbers (start₄ c .args .share0 .now)) && allBelow (numbers (start₄ c .args .share1 .now))) ≡ true
+below c = sym (c .before .before .before .both-below .ensures) ∙ not-false _ (c .if4 .left)
 
 -- ---- the returns
 
+length-outside-requires : tie.Need-length-outside-requires
+length-outside-requires c κs = search needs
+
 returns : tie.Need-returns
 returns c =
-    let a = c .before .before .before .before .args in
-    cause-1 (a .n) (a .t) (a .query .now) (a .share0 .now) (a .share1 .now) (below-bounds 256 (a .n) (c .if1 .taken))
+    let a = c .before .before .before .before .before .args in
+    cause-1 (a .n) (a .t) (a .query .now) (a .share0 .now) (a .share1 .now) (sym (c .before .length-outside .ensures) ∙ c .if1 .taken)
+
+threshold-outside-requires : tie.Need-threshold-outside-requires
+threshold-outside-requires c κs = search needs
 
 returns-2 : tie.Need-returns-2
 returns-2 c =
-    let a = c .before .before .before .before .before .args in
-    cause-1 (a .n) (a .t) (a .query .now) (a .share0 .now) (a .share1 .now) (above-bounds 256 (a .n) (c .before .if1 .left) (c .if2 .taken))
-
-returns-3 : tie.Need-returns-3
-returns-3 c =
-    let a = start₂ (c .before) .args in
-    cause-2 (a .n) (a .t) (a .query .now) (a .share0 .now) (a .share1 .now) (bounds (c .before)) (below-bounds 65535 (a .t) (c .if3 .taken))
-
-returns-4 : tie.Need-returns-4
-returns-4 c =
-    let a = start₂ (c .before .before) .args in
-    cause-2 (a .n) (a .t) (a .query .now) (a .share0 .now) (a .share1 .now) (bounds (c .before .before))
-    (above-bounds 65535 (a .t) (c .before .if3 .left) (c .if4 .taken))
+    let e₁ = c .before .before in
+    let a = start₁ e₁ .args in
+    cause-2 (a .n) (a .t) (a .query .now) (a .share0 .now) (a .share1 .now) (bounds e₁) (sym (c .before .threshold-outside .ensures) ∙ c .if2 .taken)
 
 is-query-requires : tie.Need-is-query-requires
 is-query-requires c κs = search needs
@@ -69,51 +64,51 @@ both-below-requires c κs = search needs
 wrong-shares-requires : tie.Need-wrong-shares-requires
 wrong-shares-requires c κs = search needs
 
+returns-3 : tie.Need-returns-3
+returns-3 c =
+    let e₂ = c .before .before .before .before in
+    let a = start₂ e₂ .args in
+    cause-4 (a .n) (a .t) (a .query .now) (a .share0 .now) (a .share1 .now) (bounds (e₂ .before .before)) (threshold e₂)
+    (rw (← c .before .before .before .is-query .ensures) (sym (c .before .wrong-shares .ensures) ∙ c .if3 .taken))
+
+returns-4 : tie.Need-returns-4
+returns-4 c =
+    let e₃ = c .before in
+    let e₂ = e₃ .before .before .before .before in
+    let a = start₂ e₂ .args in
+    cause-6 (a .n) (a .t) (a .query .now) (a .share0 .now) (a .share1 .now) (bounds (e₂ .before .before)) (threshold e₂) (lengths e₃)
+    (sym (e₃ .before .before .both-below .ensures) ∙ not-true _ (c .if4 .taken))
+
 returns-5 : tie.Need-returns-5
 returns-5 c =
-    let e₄ = c .before .before .before .before in
-    let a = start₄ e₄ .args in
-    cause-4 (a .n) (a .t) (a .query .now) (a .share0 .now) (a .share1 .now) (bounds (e₄ .before .before)) (threshold e₄)
-    (rw (← c .before .before .before .is-query .ensures) (sym (c .before .wrong-shares .ensures) ∙ c .if5 .taken))
+    let e₄ = c .before in
+    let e₃ = e₄ .before in
+    let e₂ = e₃ .before .before .before .before in
+    let a = start₂ e₂ .args in
+    cause-9 (a .n) (a .t) (a .query .now) (a .share0 .now) (a .share1 .now) (bounds (e₂ .before .before)) (threshold e₂) (lengths e₃) (below e₄)
+    (sym (e₃ .before .before .before .is-query .ensures) ∙ not-true _ (c .if5 .taken))
 
 returns-6 : tie.Need-returns-6
 returns-6 c =
-    let e₅ = c .before in
-    let e₄ = e₅ .before .before .before .before in
-    let a = start₄ e₄ .args in
-    cause-6 (a .n) (a .t) (a .query .now) (a .share0 .now) (a .share1 .now) (bounds (e₄ .before .before)) (threshold e₄) (lengths e₅)
-    (sym (e₅ .before .before .both-below .ensures) ∙ not-true _ (c .if6 .taken))
-
-returns-7 : tie.Need-returns-7
-returns-7 c =
-    let e₆ = c .before in
-    let e₅ = e₆ .before in
-    let e₄ = e₅ .before .before .before .before in
-    let a = start₄ e₄ .args in
-    cause-9 (a .n) (a .t) (a .query .now) (a .share0 .now) (a .share1 .now) (bounds (e₄ .before .before)) (threshold e₄) (lengths e₅) (below e₆)
-    (sym (e₅ .before .before .before .is-query .ensures) ∙ not-true _ (c .if7 .taken))
-
-returns-8 : tie.Need-returns-8
-returns-8 c =
-    let e₆ = c .before in
-    let e₅ = e₆ .before in
-    let e₄ = e₅ .before .before .before .before in
-    let a = start₄ e₄ .args in
-    no-cause (a .n) (a .t) (a .query .now) (a .share0 .now) (a .share1 .now) (bounds (e₄ .before .before)) (threshold e₄) (lengths e₅) (below e₆)
-    (sym (e₅ .before .before .before .is-query .ensures) ∙ not-false _ (c .if7 .left))
+    let e₄ = c .before in
+    let e₃ = e₄ .before in
+    let e₂ = e₃ .before .before .before .before in
+    let a = start₂ e₂ .args in
+    no-cause (a .n) (a .t) (a .query .now) (a .share0 .now) (a .share1 .now) (bounds (e₂ .before .before)) (threshold e₂) (lengths e₃) (below e₄)
+    (sym (e₃ .before .before .before .is-query .ensures) ∙ not-false _ (c .if5 .left))
 
 pub first-cause-spec : {M : Type 1} → statement M
 first-cause-spec =
     tie.close
     (tie.spec
+    length-outside-requires
     returns
+    threshold-outside-requires
     returns-2
-    returns-3
-    returns-4
     is-query-requires
     both-below-requires
     wrong-shares-requires
+    returns-3
+    returns-4
     returns-5
-    returns-6
-    returns-7
-    returns-8)
+    returns-6)

@@ -10,7 +10,8 @@ use borrow.Author.Needs.{needs}
 use Rattle.group.specs.Modular.{p}
 use Rattle.point.specs.PublicShare.{publicShareLength, every, payloadsBelow}
 use Rattle.idpf.specs.Reports.{reportCount, publicShareAt}
-use Rattle.idpf.proofs.ShareChecks.{every-none, every-more, report-room, share-part, one-fails, all-pass}
+use Rattle.walk.proofs.PublicTests.{every-none, every-more}
+use Rattle.idpf.proofs.ShareChecks.{report-room, share-part, one-fails, all-pass}
 use Rattle.idpf.proofs.checks.all_payloads_below.Statement.{statement}
 use Rattle.idpf.proofs.checks.all_payloads_below.Tie as tie
 

@@ -9,7 +9,8 @@ use borrow.Author.Tests.{not-true, not-false}
 use borrow.Author.Needs.{needs}
 use Rattle.point.specs.PublicShare.{publicShareLength, every, spareBitsZero}
 use Rattle.idpf.specs.Reports.{reportCount, publicShareAt}
-use Rattle.idpf.proofs.ShareChecks.{every-none, every-more, report-room, share-part, one-fails, all-pass}
+use Rattle.walk.proofs.PublicTests.{every-none, every-more}
+use Rattle.idpf.proofs.ShareChecks.{report-room, share-part, one-fails, all-pass}
 use Rattle.idpf.proofs.checks.all_spare_bits_zero.Statement.{statement}
 use Rattle.idpf.proofs.checks.all_spare_bits_zero.Tie as tie
 

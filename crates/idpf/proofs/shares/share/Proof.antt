@@ -5,9 +5,10 @@ use mathlib.Core.Path.{_≡_, refl, sym, ap, _∙_}
 use mathlib.Core.List.{List, []}
 use borrow.Author.Needs.{needs}
 use lib.ListN.{length}
-use Rattle.numbers.specs.Places.{overlay}
-use Rattle.numbers.proofs.Places.{overlay-nil}
-use Rattle.calls.specs.Causes.{judged}
+use Rattle.places.specs.Places.{overlay}
+use Rattle.places.proofs.Places.{overlay-nil}
+use Rattle.calls.specs.Outcome.{judged}
+use Rattle.calls.proofs.Judged.{exit-equal}
 use Rattle.idpf.proofs.ShareOutcome.{causes, Ready, ready, outcome-number, outcome-refused, outcome-accepted, never-unknown, bytes-length}
 use Rattle.idpf.proofs.shares.share.Statement.{statement}
 use Rattle.idpf.proofs.shares.share.Tie as tie
@@ -35,13 +36,11 @@ returns c =
     let a = k .before .before .before .before .before .args in
     let w =
     outcome-refused (a .n) (a .expander) (a .server) (a .seeds .now) (a .public-shares .now) (a .query .now) (length (a .out .now))
-    (k .share-cause .ensures) (c .if1 .taken) in (
-      outcome-number (a .n) (a .expander) (a .server) (a .seeds .now) (a .public-shares .now) (a .query .now) (length (a .out .now)) (k .share-cause .ensures),
-      (
-        sym (ap length w),
-        sym (ap (λ (v : List ℕ). overlay v (a .out .now)) w ∙ overlay-nil (a .out .now)),
-      ),
-    )
+    (k .share-cause .ensures) (c .if1 .taken) in
+    exit-equal
+    (outcome-number (a .n) (a .expander) (a .server) (a .seeds .now) (a .public-shares .now) (a .query .now) (length (a .out .now)) (k .share-cause .ensures))
+    (sym (ap length w))
+    (sym (ap (λ (v : List ℕ). overlay v (a .out .now)) w ∙ overlay-nil (a .out .now)))
 
 choose-requires : tie.Need-choose-requires
 choose-requires c κs = search needs
@@ -76,13 +75,11 @@ returns-2 c =
     let a = start s .args in
     let x = t .e .given .0 .0 in
     rw (outcome-accepted (a .n) (a .expander) (a .server) (a .seeds .now) (a .public-shares .now) (a .query .now) (length (a .out .now)) x
-    (sym (h .choose .ensures) ∙ t .e .given .1) (clear s)) (
-      refl,
-      (
-        ap (λ (m : ℕ). 8 * m) (c .prefix-count .ensures .0) ∙ sym (bytes-length (a .n) (a .server) (a .seeds .now) (a .public-shares .now) (a .query .now) x),
-        w .write-sums .ensures,
-      ),
-    )
+    (sym (h .choose .ensures) ∙ t .e .given .1) (clear s))
+    (exit-equal
+    refl
+    (ap (λ (m : ℕ). 8 * m) (c .prefix-count .ensures .0) ∙ sym (bytes-length (a .n) (a .server) (a .seeds .now) (a .public-shares .now) (a .query .now) x))
+    (w .write-sums .ensures))
 
 returns-3 : tie.Need-returns-3
 returns-3 c =

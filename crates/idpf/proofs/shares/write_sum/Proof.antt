@@ -4,6 +4,9 @@ use borrow.Author.Needs.{needs}
 use Rattle.idpf.proofs.shares.write_sum.Statement.{statement}
 use Rattle.idpf.proofs.shares.write_sum.Tie as tie
 
+slice-aggregate-server-sum : tie.Need-slice-aggregate-server-sum
+slice-aggregate-server-sum c = search needs
+
 prefix-at-requires : tie.Need-prefix-at-requires
 prefix-at-requires c κs = search needs
 
@@ -23,12 +26,13 @@ returns : tie.Need-returns
 returns c =
     let w = c .before .before in
     let s = w .before .before in
-    w .write-le8 .ensures ∙ rw (s .server-sum .ensures .0, s .before .prefix-at .ensures)
+    w .write-le8 .ensures ∙ rw (s .server-sum .ensures, s .before .prefix-at .ensures)
 
 pub write-sum-spec : {M : Type 1} → statement M
 write-sum-spec =
     tie.close
     (tie.spec
+    slice-aggregate-server-sum
     prefix-at-requires
     server-sum-requires
     mul-write-le8

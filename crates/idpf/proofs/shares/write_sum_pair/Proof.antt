@@ -13,6 +13,9 @@ prefix-at-requires c κs = search needs
 prefix-at-requires-2 : tie.Need-prefix-at-requires-2
 prefix-at-requires-2 c κs = search needs
 
+slice-aggregate-server-sums : tie.Need-slice-aggregate-server-sums
+slice-aggregate-server-sums c = search needs
+
 server-sums-requires : tie.Need-server-sums-requires
 server-sums-requires c κs = search needs
 
@@ -36,9 +39,9 @@ returns c =
     let w = c .before .before in
     let v = w .before .before .before .before in
     let s = v .before .before in
-    let second = s .before in
+    let second = s .before .before in
     w .write-le82 .ensures
-    ∙ rw (v .write-le8 .ensures, s .server-sums .ensures .0 .0, s .server-sums .ensures .1 .0, second .before .prefix-at .ensures, second .prefix-at2 .ensures)
+    ∙ rw (v .write-le8 .ensures, s .server-sums .ensures .0, s .server-sums .ensures .1, second .before .prefix-at .ensures, second .prefix-at2 .ensures)
 
 pub write-sum-pair-spec : {M : Type 1} → statement M
 write-sum-pair-spec =
@@ -47,6 +50,7 @@ write-sum-pair-spec =
     add-next
     prefix-at-requires
     prefix-at-requires-2
+    slice-aggregate-server-sums
     server-sums-requires
     mul-write-le8
     write-le8-requires

@@ -6,7 +6,7 @@ use mathlib.Core.Path.{ap, _∙_}
 use lib.ListN.{length}
 use native.Mathlib.Omega.{arith}
 use borrow.Author.Needs.{needs}
-use Rattle.numbers.proofs.Places.{putAt-length, Grown}
+use Rattle.places.proofs.Places.{putAt-length, Grown}
 use Rattle.query.proofs.Ready.{ready}
 use Rattle.idpf.proofs.ShareSums.{all, left, sums-start, sums-more, sums-two, sums-length, sums-end}
 use Rattle.idpf.proofs.shares.write_sums.Statement.{statement}

@@ -6,9 +6,9 @@ use mathlib.Core.Path.{sym, ap, _∙_}
 use mathlib.Core.List.{List, _++_}
 use lib.ListN.{length}
 use Rattle.numbers.specs.Numbers.{big}
-use Rattle.numbers.specs.Places.{putAt}
-use Rattle.numbers.proofs.Places.{putAt-outside, putAt-more}
-use Rattle.numbers.proofs.Straight.{inside, outside}
+use Rattle.places.specs.Places.{putAt}
+use Rattle.places.proofs.Places.{putAt-outside, putAt-more}
+use Rattle.places.proofs.Inside.{inside, outside}
 use Rattle.query.proofs.writing.write_heading.Statement.{statement}
 use Rattle.query.proofs.writing.write_heading.Tie as tie
 

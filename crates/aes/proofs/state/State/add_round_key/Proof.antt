@@ -1,5 +1,5 @@
 -- `aes::state::State::add_round_key` meets its contract. It adds word by word. Assumes nothing.
-use Rattle.aes.proofs.Lists.{join4}
+use Rattle.gf256.proofs.Lists.{join4}
 use borrow.Author.Needs.{needs}
 use Rattle.aes.proofs.state.State.add_round_key.Statement.{statement}
 use Rattle.aes.proofs.state.State.add_round_key.Tie as tie

@@ -1,6 +1,6 @@
 -- `aes::state::State::load` meets its contract. A list of 16 bytes is what stands at its places. Assumes nothing.
 use mathlib.Core.Path.{_∙_}
-use Rattle.aes.proofs.Lists.{join4, tabulate-getD}
+use Rattle.gf256.proofs.Lists.{join4, tabulate-getD}
 use borrow.Author.Needs.{needs}
 use Rattle.aes.proofs.state.State.load.Statement.{statement}
 use Rattle.aes.proofs.state.State.load.Tie as tie

@@ -1,5 +1,5 @@
 -- `aes::state::State::mix_columns` meets its contract. It goes column by column. Assumes nothing.
-use Rattle.aes.proofs.Lists.{join4}
+use Rattle.gf256.proofs.Lists.{join4}
 use borrow.Author.Needs.{needs}
 use Rattle.aes.proofs.state.State.mix_columns.Statement.{statement}
 use Rattle.aes.proofs.state.State.mix_columns.Tie as tie

@@ -2,7 +2,7 @@
 use mathlib.Core.Path.{_∙_, ap, ap₂}
 use Rattle.aes.specs.Fips197.{sumWord, subWord}
 use Rattle.aes.specs.Layout.{wordOf}
-use Rattle.aes.proofs.Lists.{join4}
+use Rattle.gf256.proofs.Lists.{join4}
 use borrow.Author.Needs.{needs}
 use Rattle.aes.proofs.state.State.next_round_key.Statement.{statement}
 use Rattle.aes.proofs.state.State.next_round_key.Tie as tie

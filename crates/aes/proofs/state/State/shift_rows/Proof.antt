@@ -1,5 +1,5 @@
 -- `aes::state::State::shift_rows` meets its contract. Each column is a diagonal. Assumes nothing.
-use Rattle.aes.proofs.Lists.{join4}
+use Rattle.gf256.proofs.Lists.{join4}
 use borrow.Author.Needs.{needs}
 use Rattle.aes.proofs.state.State.shift_rows.Statement.{statement}
 use Rattle.aes.proofs.state.State.shift_rows.Tie as tie

@@ -1,5 +1,5 @@
 -- `aes::state::State::sub_bytes` meets its contract. It goes word by word. Assumes nothing.
-use Rattle.aes.proofs.Lists.{join4}
+use Rattle.gf256.proofs.Lists.{join4}
 use borrow.Author.Needs.{needs}
 use Rattle.aes.proofs.state.State.sub_bytes.Statement.{statement}
 use Rattle.aes.proofs.state.State.sub_bytes.Tie as tie

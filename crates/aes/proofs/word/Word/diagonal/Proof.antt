@@ -3,7 +3,7 @@ use mathlib.Core.Path.{ap, _∙_}
 use mathlib.Core.List.{List}
 use Prim.Native.Nat.{ℕ}
 use lib.ListN.{getD}
-use Rattle.aes.proofs.Lists.{cons4}
+use Rattle.gf256.proofs.Lists.{cons4}
 use borrow.Author.Needs.{needs}
 use Rattle.aes.proofs.word.Word.diagonal.Statement.{statement}
 use Rattle.aes.proofs.word.Word.diagonal.Tie as tie

@@ -1,6 +1,6 @@
 -- `aes::word::Word::load` meets its contract. It packs the bytes that stand at the four places. Assumes nothing.
 use mathlib.Core.Path.{_∙_}
-use Rattle.aes.proofs.Lists.{cons4, tabulate-getD}
+use Rattle.gf256.proofs.Lists.{cons4, tabulate-getD}
 use Rattle.aes.proofs.Words.{packed}
 use borrow.Author.Needs.{needs}
 use Rattle.aes.proofs.word.Word.load.Statement.{statement}

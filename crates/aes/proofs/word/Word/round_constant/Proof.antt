@@ -7,7 +7,7 @@ use lib.Dec.{eqb, eqb→eq}
 use lib.ListN.{getD}
 use Rattle.aes.specs.Fips197.{powerOfX}
 use Rattle.aes.proofs.Computes.{computes}
-use Rattle.aes.proofs.Below.{below}
+use Rattle.gf256.proofs.Below.{below}
 use borrow.Author.Needs.{needs}
 use Rattle.aes.proofs.word.Word.round_constant.Statement.{statement}
 use Rattle.aes.proofs.word.Word.round_constant.Tie as tie

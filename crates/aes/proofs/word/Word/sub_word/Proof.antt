@@ -4,7 +4,7 @@ use mathlib.Core.List.{List}
 use Prim.Native.Nat.{ℕ}
 use lib.ListN.{getD}
 use Rattle.aes.specs.Fips197.{sBox}
-use Rattle.aes.proofs.Lists.{cons4}
+use Rattle.gf256.proofs.Lists.{cons4}
 use borrow.Author.Needs.{needs}
 use Rattle.aes.proofs.word.Word.sub_word.Statement.{statement}
 use Rattle.aes.proofs.word.Word.sub_word.Tie as tie

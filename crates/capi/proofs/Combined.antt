@@ -1,0 +1,18 @@
+-- What combining returns, as C reads it. Assumes nothing.
+use Prim.Native.Nat.{ℕ}
+use mathlib.Core.Path.{_≡_, sym, ap, _∙_}
+use mathlib.Core.List.{List}
+use Rattle.combine.specs.declared.Combined.{Combined}
+use Rattle.combine.specs.Answer.{numberOf, lengthOf, kindOf}
+use Rattle.combine.specs.Combine.{CombineExit, told}
+use Rattle.capi.specs.Combined.{InC, kindNumber}
+
+-- an exit with the kind as a number
+abbrev pub asNumbers : CombineExit → InC
+asNumbers x = record { number = x .number; kind = kindNumber (x .kind); length = x .length; space = x .space }
+
+-- a case of the answer, as it is returned to C
+pub told-in-c : (r s : Combined) {space : List ℕ} {x : CombineExit} → r ≡ s → told r space ≡ x
+    → asNumbers (record { number = numberOf s; kind = kindOf s; length = lengthOf s; space = space }) ≡ asNumbers x
+unfolding told
+told-in-c r s {space} h e = ap (λ (c : Combined). asNumbers (record { number = numberOf c; kind = kindOf c; length = lengthOf c; space = space })) (sym h) ∙ ap asNumbers e

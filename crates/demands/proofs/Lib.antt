@@ -1,0 +1,3 @@
+pub mod EveryCall
+pub mod HeavyList
+pub mod EqualRecords

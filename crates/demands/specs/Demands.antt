@@ -1,0 +1,123 @@
+-- The user's three demands, sentence by sentence, as three types; `demand-1`, `demand-2` and `demand-3` in the crate's proofs are their proofs.
+-- Their calls stand in `Calls`, their keys and searches in `Words`; every other word is defined where it is brought in from.
+use Prim.Native.Nat.{ℕ, _+_, _*_, _%_, _≤_, _<_}
+use mathlib.Core.Path.{_≡_}
+use mathlib.Core.Bool.{Bool, true, false, cond, _&&_}
+use mathlib.Core.List.{List, _++_}
+use mathlib.Core.Logic.{_≢_, _↔_}
+use mathlib.Core.Option.{none}
+use lib.ListN.{length, drop, replicate}
+use lib.Dec.{eqb}
+use Rattle.places.specs.Lists.{_∈_, All}
+use Rattle.bits.specs.Strings.{Bits, isPrefix, count, Ascending}
+use Rattle.group.specs.Modular.{modulus}
+use Rattle.calls.specs.Causes.{Due}
+use Rattle.calls.specs.Outcome.{accepted}
+use Rattle.expander.specs.declared.Expander.{Expander}
+use Rattle.point.specs.PublicShare.{publicShareLength}
+use Rattle.query.specs.Query.{packs, IsQuery, prefixCount, prefixesOf, children}
+use Rattle.tree.specs.Search.{start, totals, heading}
+use Rattle.tree.specs.Cut.{cut, cuts, times, Rearranged}
+use Rattle.search.specs.Search.{Lent, countedNumber, thresholdOf, total}
+use Rattle.honest.specs.Honest.{Accepted, recordRead, listRead, Honest, countedStrings}
+use Rattle.honest.specs.Loop.{Passes, firstQuery}
+use Rattle.demands.specs.Calls.{Call, causes, Area, result}
+use Rattle.demands.specs.Words.{Key, InBounds, made, pointKey, pointShare, pointSum, served, byCalls, Servable, Ready, Seeded, withShares}
+
+-- ==== Demand 1
+
+-- an area after a refusal with the number k: the length is 0 and no byte is changed, but the record area of a search is zero bytes where k is 11
+abbrev pub AfterRefusal : ℕ → Area → Type 0
+AfterRefusal k a = (a .returned ≡ 0) × (a .exit ≡ cond (a .isRecord && eqb k 11) (replicate (length (a .entry)) 0) (a .entry))
+
+-- an area after success: the length is within the area, which keeps its size, and the bytes past that length are as they were
+abbrev pub AfterSuccess : Area → Type 0
+AfterSuccess a =
+    (a .returned ≤ length (a .entry)) × (length (a .exit) ≡ length (a .entry))
+    × (drop (a .returned) (a .exit) ≡ drop (a .returned) (a .entry))
+
+-- 'The program as a whole, library and exam program, ends on every input': that is the checker's claim for each function that it proves.
+abbrev pub Demand1 : Type 0
+Demand1 =
+    -- 'Every call checks what it is lent and refuses with the number that document 01 orders first': that number is due, and no other is.
+    (c : Call) → Due (causes c) (result c .number) × ((k : ℕ) → Due (causes c) k → k ≡ result c .number)
+    -- 'A refusal changes no lent buffer, except that a search refused for space or for too many prefixes leaves its record zeroed.'
+    × (result c .number ≢ 0 → All (AfterRefusal (result c .number)) (result c .areas))
+    -- Document 01: 'A refused combining names none of its three kinds of answer.'
+    × (result c .number ≢ 0 → result c .kind ≡ none)
+    -- Document 01: 'Success is 0 with the lengths written; bytes past them are unchanged.'
+    × (result c .number ≡ 0 → All AfterSuccess (result c .areas))
+
+-- ==== Demand 2
+
+-- the bytes are every string of n bits that at least t installations hold and no other, once each, ascending, packed; as all strings have n bits, those
+-- that have x as a prefix are those that are x
+abbrev pub TheHeavyStrings : Lent → List Bits → List ℕ → Type 0
+TheHeavyStrings s xs bytes =
+    (ss : List Bits) × (bytes ≡ packs ss)
+    × ((x : Bits) → (x ∈ ss) ↔ ((length x ≡ s .n) × (thresholdOf s ≤ count (countedStrings s xs) x)))
+    × ((x : Bits) → times x ss ≤ 1)
+    × Ascending ss
+
+abbrev pub Demand2 : Type 0
+Demand2 =
+    -- 'Keys .. are those of the incremental distributed point function of Boneh and others (IEEE S&P 2021) with AES-128, or with the classroom
+    -- expander of document 01', which `point/specs` states step by step: the key maker writes its public share,
+    ((k : Key) → InBounds k → (room : ℕ) → publicShareLength (length (k .string)) ≤ room → made k room ≡ accepted (pointKey k))
+    -- and the shares of both servers at a prefix add to 1 if the string has it, and to 0 if not.
+    × ((k : Key) → InBounds k → (q : Bits) → 1 ≤ length q → length q ≤ length (k .string)
+    → (pointShare k false q + pointShare k true q) % modulus ≡ cond (isPrefix q (k .string)) 1 0)
+    -- 'Keys and both servers' shares': a server's answer to a query is, for each prefix in order, the sum of its shares of all keys.
+    × ((s : Lent) (xs : List Bits) (e : Expander) → Honest s xs → Servable s xs e
+    → (b : Bool) (query : List ℕ) → IsQuery (s .n) query → (room : ℕ) → 8 * prefixCount query ≤ room
+    → served s b query room ≡ accepted (totals (pointSum s xs e b) (prefixesOf query)))
+    -- 'For honestly made keys with any seeds, the list of an accepted search holds every string of the search's full length that at least t
+    -- installations hold and no other, once each, ascending.'
+    × ((s : Lent) (xs : List Bits) → Honest s xs → Accepted s → TheHeavyStrings s xs (listRead s))
+    -- So does the list that both servers and combining leave when they are called in turn, unless a cause before 11 applies;
+    × ((s : Lent) (xs : List Bits) → Honest s xs → Passes s → TheHeavyStrings s xs (byCalls s .listed))
+    -- and for any reports, honest or not, what they leave is the record and the list of an accepted search.
+    × ((s : Lent) → Accepted s → (recordRead s ≡ heading (countedNumber s) ++ byCalls s .recorded) × (listRead s ≡ byCalls s .listed))
+    -- There are such searches: any strings and seeds have public shares with which they are honest, and an honest search that is ready is accepted.
+    × ((s : Lent) (xs : List Bits) (e : Expander) → Servable s xs e → Seeded s xs → (shares : List ℕ) × Honest (withShares s shares) xs)
+    × ((s : Lent) (xs : List Bits) (e : Expander) → Honest s xs → Ready s xs e → Accepted s)
+
+-- ==== Demand 3
+
+-- q is a prefix of x, and not the empty one
+abbrev pub SomePrefix : Bits → Bits → Type 0
+SomePrefix q x = (isPrefix q x ≡ true) × (1 ≤ length q)
+
+-- c is the shortest non-empty prefix of x that fewer than t of the strings have, or x whole if there is none
+abbrev pub CutTo : ℕ → List Bits → Bits → Bits → Type 0
+CutTo t xs x c =
+    ((q : Bits) → SomePrefix q x → count xs q < t → SomePrefix c x × (count xs c < t) × (length c ≤ length q))
+    × (((q : Bits) → SomePrefix q x → t ≤ count xs q) → c ≡ x)
+
+-- the cut strings of a search, in the order of its reports
+abbrev pub cutStrings : Lent → List Bits → List Bits
+cutStrings s xs = cuts (thresholdOf s) (countedStrings s xs)
+
+abbrev pub Demand3 : Type 0
+Demand3 =
+    -- 'In each search, cut every installation's string down to its shortest non-empty prefix that fewer than t installations of that search hold, or
+    -- leave it whole if there is none.'
+    ((t : ℕ) (xs : List Bits) (x : Bits) → CutTo t xs x (cut t xs x))
+    -- 'For any two accepted searches of honest reports with equal string length and t, whatever the seeds, expander and number of reports of each,
+    -- the two records are alike in length and in every byte exactly when the two lists of cut strings are rearrangements of each other.'
+    × ((s u : Lent) (xs ys : List Bits) → Honest s xs → Honest u ys → s .n ≡ u .n → thresholdOf s ≡ thresholdOf u → Accepted s → Accepted u
+    → (recordRead s ≡ recordRead u) ↔ Rearranged (cutStrings s xs) (cutStrings u ys))
+    -- 'This is all that two servers jointly learn from the totals': the record has each query followed by its totals (demand 2, called in turn), so the
+    -- equivalence above speaks of all of them; and no record is empty,
+    × ((s : Lent) → Accepted s
+    → (rest : List ℕ) × (recordRead s ≡ heading (countedNumber s) ++ (firstQuery ++ (totals (total s) (children start) ++ rest))))
+    -- 'A candidate must be able to work it out by hand, so no random noise may be added to the totals': the total of a prefix is the number of installations that hold it.
+    × ((s : Lent) (xs : List Bits) → Honest s xs → Accepted s → (q : Bits) → 1 ≤ length q → length q ≤ s .n → total s q ≡ count (countedStrings s xs) q)
+
+-- ==== What is assumed
+-- What `result` says of a call is what the contract of its function says: the `ensures` in `src`, which the checker proves of the code.
+-- The checker accepts no false proof, and its account of the language is the language.
+-- The compiler's back end keeps to that account: of the machine code nothing is proved.
+-- The crates io, libc and os, which only the programs call, do what their contracts say.
+-- No contract says which bytes a program's `main` reads and writes; the exam's lends what it reads to `respond`, and writes what that leaves.
+-- That one server alone learns nothing is not shown: it rests on AES-128 and the paper, and the classroom expander hides nothing.

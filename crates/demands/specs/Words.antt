@@ -1,0 +1,108 @@
+-- Words of the demands: a key with its point function, a server's answer, the calls in turn, and when an honest search is ready. Assumes nothing.
+use Prim.Native.Nat.{ℕ, _*_, _≤_}
+use mathlib.Core.Path.{_≡_}
+use mathlib.Core.Bool.{Bool, cond}
+use mathlib.Core.List.{List, []}
+use lib.ListN.{length, getD}
+use Rattle.places.specs.Places.{Bytes}
+use Rattle.bits.specs.Strings.{Bits}
+use Rattle.bits.specs.Packing.{pack}
+use Rattle.calls.specs.Outcome.{Outcome}
+use Rattle.expander.specs.declared.Expander.{Expander}
+use Rattle.expander.specs.declared.Expander.the-variants.{Aes, Classroom}
+use Rattle.point.specs.Correction.{Correction}
+use Rattle.point.specs.Keys.{keyCorrection}
+use Rattle.point.specs.Share.{bitOf, shareAt}
+use Rattle.point.specs.PublicShare.{publicShare}
+use Rattle.point.specs.Instance.{scheme}
+use Rattle.query.specs.Query.{OfLength}
+use Rattle.tree.specs.Space.{recordSpace, listSpace}
+use Rattle.keymaker.specs.Key.{keyOutcome}
+use Rattle.group.specs.Modular.{field}
+use Rattle.idpf.specs.Reports.{seedAt, allCount, sumWhere}
+use Rattle.idpf.specs.Share.{shareOutcome}
+use Rattle.search.specs.Search.{Lent, lent, thresholdOf}
+use Rattle.honest.specs.Honest.{countedStrings}
+use Rattle.honest.specs.Loop.{firstQuery, Played, played}
+
+-- ---- a key
+
+-- Its expander, its string and its two root seeds.
+pub record Key : Type 0 where
+  pub expander : Expander
+  pub string : Bits
+  pub seed0 : List ℕ
+  pub seed1 : List ℕ
+
+-- The string has 1 to 256 bits, and the seeds are any of 16 bytes.
+pub record InBounds (k : Key) : Type 0 where
+  pub some-bits : 1 ≤ length (k .string)
+  pub not-longer : length (k .string) ≤ 256
+  pub sized0 : Bytes 16 (k .seed0)
+  pub sized1 : Bytes 16 (k .seed1)
+
+-- the number that names an expander: 1 for AES-128, 2 for the classroom expander
+abbrev pub expanderNumber : Expander → ℕ
+expanderNumber Aes = 1
+expanderNumber Classroom = 2
+
+-- what the key maker gives in `room` bytes of space
+abbrev pub made : Key → ℕ → Outcome
+made k room = keyOutcome (length (k .string)) (expanderNumber (k .expander)) (pack (k .string)) (k .seed0) (k .seed1) room
+
+-- the correction words of the point function that is 1 on the string's path
+abbrev pub keyWords : Key → ℕ → Correction ℕ
+keyWords k = keyCorrection (scheme (k .expander)) 1 (bitOf (k .string)) (k .seed0) (k .seed1)
+
+-- its public share
+abbrev pub pointKey : Key → List ℕ
+pointKey k = publicShare (length (k .string)) (keyWords k)
+
+-- server b's share of it at the prefix q
+abbrev pub pointShare : Key → Bool → Bits → ℕ
+pointShare k b q = shareAt (scheme (k .expander)) (keyWords k) (cond b (k .seed1) (k .seed0)) b q
+
+-- ---- a search whose reports are made for the strings xs
+
+-- the key of report i
+abbrev pub keyOf : Lent → List Bits → Expander → ℕ → Key
+keyOf s xs e i = record { expander = e; string = getD xs i []; seed0 = seedAt (s .seeds0) i; seed1 = seedAt (s .seeds1) i }
+
+-- server b's shares of all keys at the prefix q, added in the group
+abbrev pub pointSum : Lent → List Bits → Expander → Bool → Bits → ℕ
+pointSum s xs e b q = sumWhere field allCount (length xs) (λ i. pointShare (keyOf s xs e i) b q)
+
+-- what server b answers to a query in `room` bytes of space, with its own seeds and public shares
+abbrev pub served : Lent → Bool → List ℕ → ℕ → Outcome
+served s b query room = shareOutcome (s .n) (s .expander) b (cond b (s .seeds1) (s .seeds0)) (cond b (s .shares1) (s .shares0)) query room
+
+-- what is left when both servers and combining are called in turn, from the first query on, for at most n rounds
+abbrev pub byCalls : Lent → Played
+byCalls s = played s (s .n) firstQuery
+
+-- ---- when an honest search is ready
+
+-- Its n, its expander and the number of its reports are in their bounds.
+pub record Servable (s : Lent) (xs : List Bits) (e : Expander) : Type 0 where
+  pub some-bits : 1 ≤ s .n
+  pub not-longer : s .n ≤ 256
+  pub named : s .expander ≡ expanderNumber e
+  pub few : length xs ≤ 65535
+
+-- Besides, its t is in its bounds, and its areas have the space that is named for an honest record and list.
+pub record Ready (s : Lent) (xs : List Bits) (e : Expander) : Type 0 where
+  pub servable : Servable s xs e
+  pub some-threshold : 1 ≤ thresholdOf s
+  pub not-higher : thresholdOf s ≤ 65535
+  pub record-space : recordSpace (s .n) (thresholdOf s) (length (countedStrings s xs)) ≤ length (s .recordArea)
+  pub list-space : listSpace (s .n) (thresholdOf s) (length (countedStrings s xs)) ≤ length (s .listArea)
+
+-- The strings have n bits, and there are two root seeds of 16 bytes for each.
+pub record Seeded (s : Lent) (xs : List Bits) : Type 0 where
+  pub n-bits : OfLength (s .n) xs
+  pub seeds0 : Bytes (16 * length xs) (s .seeds0)
+  pub seeds1 : Bytes (16 * length xs) (s .seeds1)
+
+-- the search with the given public shares for both servers
+abbrev pub withShares : Lent → List ℕ → Lent
+withShares s shares = lent (s .n) (s .t) (s .expander) (s .seeds0) shares (s .seeds1) shares (s .recordArea) (s .listArea)

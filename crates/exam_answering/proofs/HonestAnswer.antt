@@ -1,0 +1,61 @@
+-- A search of honest reports for the strings of a sheet: it is accepted, and what is printed of it is the sheet's answer. Assumes nothing.
+use Prim.Native.Nat.{_≤_}
+use native.Mathlib.Omega.{arith}
+use mathlib.Core.Path.{_≡_, ap₂, _∙_}
+use mathlib.Core.Bool.{true}
+use mathlib.Core.List.{List}
+use lib.ListN.{length}
+use lib.Dec.{leb}
+use Rattle.bits.specs.Strings.{Bits, count}
+use Rattle.expander.specs.Expander.{isExpander}
+use Rattle.query.specs.Query.{OfLength, packs}
+use Rattle.tree.specs.Search.{searchRecord, searchList}
+use Rattle.search.specs.Search.{Lent, thresholdOf, searchNumber}
+use Rattle.search.proofs.Outcome.{Sound, accepted-clear}
+use Rattle.honest.specs.Honest.{Accepted, recordRead, listRead, Honest, countedStrings}
+use Rattle.honest.proofs.Counted.{few-strings, accepted-record, accepted-list}
+use Rattle.honest.proofs.Demand2.{honest-accepted}
+use Rattle.exam_reading.specs.Sheet.{Sheet, strings}
+use Rattle.exam_answering.specs.Answer.{answerText}
+use Rattle.exam_reading.proofs.Records.{Rounds}
+use Rattle.exam_answering.specs.Printing.{printed, roundLength}
+use Rattle.exam_answering.proofs.Space.{exam-record, exam-list}
+use Rattle.exam_answering.proofs.Printed.{printed-answer, answer-rounds}
+
+-- A search of at most 32 honest reports for strings of 1 to 32 bits, in the exam program's areas, is accepted.
+pub exam-accepted : (s : Lent) (xs : List Bits) → Honest s xs → 1 ≤ s .n → s .n ≤ 32 → 1 ≤ thresholdOf s → thresholdOf s ≤ 65535 → isExpander (s .expander) ≡ true
+    → length (countedStrings s xs) ≤ 32 → length (s .recordArea) ≡ 19374 → length (s .listArea) ≡ 128 → searchNumber s ≡ 0
+exam-accepted s xs honest from to least most known few room list =
+    honest-accepted s xs honest from (omega arith) least most known (omega arith)
+    (rw room (exam-record (s .n) (s .t) (length xs) to least few))
+    (rw list (exam-list (s .n) (s .t) (length xs) to least few))
+
+-- An accepted search of honest reports for the strings of a sheet, whatever its areas.
+module _ (s : Lent) (sheet : Sheet) (honest : Honest s (strings sheet)) (same-n : s .n ≡ sheet .n) (same-t : thresholdOf s ≡ sheet .t) (ok : Accepted s) where
+  sound : Sound s
+  sound = accepted-clear s ok .sound
+
+  all : OfLength (sheet .n) (strings sheet)
+  all = rw same-n at (honest .n-bits)
+
+  record-is : recordRead s ≡ searchRecord (leb (sheet .t)) (count (strings sheet)) (length (strings sheet)) (sheet .n)
+  record-is =
+      accepted-record s (strings sheet) honest ok
+      ∙ ap₂ (λ n t. searchRecord (leb t) (count (strings sheet)) (length (strings sheet)) n) same-n same-t
+
+  list-is : listRead s ≡ packs (searchList (leb (sheet .t)) (count (strings sheet)) (sheet .n))
+  list-is = accepted-list s (strings sheet) honest ok ∙ ap₂ (λ n t. packs (searchList (leb t) (count (strings sheet)) n)) same-n same-t
+
+  -- What is printed of its record and its list is the sheet's answer.
+  pub answer-printed : printed (s .n) (recordRead s) (listRead s) ≡ answerText sheet
+  answer-printed =
+      rw (record-is, list-is, same-n)
+      (printed-answer sheet all (omega (arith, sound .some-bits)) (omega (arith, sound .not-longer)) (omega (arith, sound .some-threshold))
+      (few-strings s (strings sheet) honest ok) (length (strings sheet)))
+
+  -- Its record is at most n queries, each followed by its totals.
+  pub answer-read : Rounds roundLength (s .n) (recordRead s)
+  answer-read =
+      rw (record-is, same-n)
+      (answer-rounds sheet all (omega (arith, sound .some-bits)) (omega (arith, sound .not-longer)) (omega (arith, sound .some-threshold))
+      (few-strings s (strings sheet) honest ok) (length (strings sheet)))

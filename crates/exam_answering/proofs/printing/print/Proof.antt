@@ -1,0 +1,64 @@
+-- `exam_answering::printing::print` meets its contract. Assumes nothing.
+use Prim.Native.Nat.{ℕ, _+_, _/_, _≤_}
+use native.Mathlib.Omega.{arith}
+use mathlib.Core.Path.{_∙_}
+use mathlib.Core.List.{List, [], _++_, append-nil}
+use borrow.Author.Needs.{needs}
+use lib.ListN.{length, length-append}
+use Rattle.bits.specs.Packing.{packedLength}
+use Rattle.places.proofs.Places.{Grown, grown-start, grown-room, grown-more, putAt-overlay}
+use Rattle.exam_answering.specs.Printing.{recordLines, listLines, printed}
+use Rattle.exam_lines.proofs.PrintedParts.{all-written}
+use Rattle.exam_answering.proofs.printing.print.Statement.{statement}
+use Rattle.exam_answering.proofs.printing.print.Tie as tie
+
+-- the lines of the record, and those of the list
+abbrev first : tie.Start → List ℕ
+first s = recordLines (s .args .n) (s .args .«record» .now)
+
+abbrev second : tie.Start → List ℕ
+second s = listLines (s .args .n) (length (s .args .list .now) / packedLength (s .args .n)) (s .args .list .now)
+
+room : (s : tie.Start) → 0 + length (first s ++ second s) ≤ length (s .args .out .now)
+unfolding printed
+room s = omega (arith, s .pre .3)
+
+abbrev start : tie.After-write-record → tie.Start
+start w = w .before .before .before .before .before
+
+grown : (w : tie.After-write-record)
+    → Grown (start w .args .out .now) 0 (w .write-record .last .1 .1 .0) (w .write-record .result) (second (start w) ++ []) (first (start w) ++ second (start w))
+grown w =
+    let s = start w in
+    rw (append-nil (second s))
+    (grown-more (s .args .out .now) 0 (s .args .out .now) 0 (first s) (second s) _ (grown-start (s .args .out .now) 0 _) (room s) _ _
+    (w .write-record .ensures .1) (w .write-record .ensures .0))
+
+write-record-requires : tie.Need-write-record-requires
+write-record-requires c κs =
+    let s = c .before .before .before .before in
+    (s .pre .2, omega (arith, room s, length-append (first s) (second s)))
+
+write-list-requires : tie.Need-write-list-requires
+write-list-requires c κs =
+    let w = c .before .before .before in
+    let s = start w in
+    (s .pre .0, grown-room (s .args .out .now) 0 _ _ (second s) [] _ (grown w) (room s))
+
+same-length : tie.Need-same-length
+same-length c = search needs
+
+returns : tie.Need-returns
+unfolding printed
+returns c =
+    let p = c .before .before in
+    let w = p .before .before .before .before in
+    let s = start w in
+    let o = s .args .out .now in
+    let e =
+    all-written o 0 _ _ (first s ++ second s)
+    (grown-more o 0 (w .write-record .last .1 .1 .0) (w .write-record .result) (second s) [] _ (grown w) (room s) _ _ (p .write-list .ensures .1) (p .write-list .ensures .0)) in
+    (omega (arith, e .0), e .1 ∙ putAt-overlay o (first s ++ second s) (s .pre .3))
+
+pub print-spec : {M : Type 1} → statement M
+print-spec = tie.close (tie.spec write-record-requires write-list-requires same-length returns)

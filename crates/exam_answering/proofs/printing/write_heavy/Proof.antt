@@ -1,0 +1,56 @@
+-- `exam_answering::printing::write_heavy` meets its contract. Assumes nothing.
+use Prim.Native.Nat.{_+_, _-_, _≤_}
+use native.Mathlib.Omega.{arith}
+use mathlib.Core.Path.{_≡_, _∙_}
+use borrow.Author.Needs.{needs}
+use lib.ListN.{length, take, drop}
+use Rattle.bits.specs.Packing.{packedLength, unpack}
+use Rattle.query.proofs.Pieces.{part-length}
+use Rattle.exam_lines.specs.Lines.{heavyLine}
+use Rattle.exam_lines.proofs.LineRoom.{put-there}
+use Rattle.exam_answering.proofs.printing.write_heavy.Statement.{statement}
+use Rattle.exam_answering.proofs.printing.write_heavy.Tie as tie
+
+width : (s : tie.Start) → s .args .from + s .args .w - s .args .from ≡ s .args .w
+width s = omega arith
+
+add-end : tie.Need-add-end
+add-end c = search needs
+
+sub-write-heavy-line : tie.Need-sub-write-heavy-line
+sub-write-heavy-line c = search needs
+
+part-write-heavy-line-start : tie.Need-part-write-heavy-line-start
+part-write-heavy-line-start c = search needs
+
+part-write-heavy-line-end : tie.Need-part-write-heavy-line-end
+part-write-heavy-line-end c = search needs
+
+write-heavy-line-requires : tie.Need-write-heavy-line-requires
+write-heavy-line-requires c κs = search needs
+
+same-length : tie.Need-same-length
+same-length c = search needs
+
+returns : tie.Need-returns
+returns c =
+    let h = c .before .before in
+    let s = h .before .before .before .before .before in
+    let a = s .args in
+    let fits
+    : (length (take (a .from + a .w - a .from) (drop (a .from) (a .list .now))) ≡ packedLength (a .n))
+    × (a .at + length (heavyLine (unpack (a .n) (take (a .from + a .w - a .from) (drop (a .from) (a .list .now))))) ≤ length (a .out .now)) =
+    rw (width s) (part-length (a .w) (a .from) (a .list .now) (s .pre .1) ∙ s .pre .0, s .pre .2) in
+    rw (width s) at (put-there heavyLine (a .out .now) (a .at) (a .n) (take (a .from + a .w - a .from) (drop (a .from) (a .list .now))) (fits .0) (fits .1) _ _ (h .write-heavy-line .ensures))
+
+pub write-heavy-spec : {M : Type 1} → statement M
+write-heavy-spec =
+    tie.close
+    (tie.spec
+    add-end
+    sub-write-heavy-line
+    part-write-heavy-line-start
+    part-write-heavy-line-end
+    write-heavy-line-requires
+    same-length
+    returns)

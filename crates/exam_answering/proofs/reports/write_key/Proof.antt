@@ -1,0 +1,53 @@
+-- `exam_answering::reports::write_key` meets its contract: what the key maker writes into the part that it is lent is put at its place. Assumes nothing.
+use Rattle.point.specs.PublicShare.{publicShareLength}
+use Rattle.calls.specs.Outcome.{Exit}
+use Rattle.keymaker.specs.Key.{keyOutcome}
+use Rattle.exam_answering.proofs.PiecesPut.{part-put}
+use mathlib.Core.Path.{ap}
+use borrow.Author.Needs.{needs}
+use Rattle.exam_answering.proofs.reports.write_key.Statement.{statement}
+use Rattle.exam_answering.proofs.reports.write_key.Tie as tie
+
+public-share-length-requires : tie.Need-public-share-length-requires
+public-share-length-requires c κs = search needs
+
+add-end : tie.Need-add-end
+add-end c = search needs
+
+sub-make-key : tie.Need-sub-make-key
+sub-make-key c = search needs
+
+part-make-key-start : tie.Need-part-make-key-start
+part-make-key-start c = search needs
+
+part-make-key-end : tie.Need-part-make-key-end
+part-make-key-end c = search needs
+
+make-key-requires : tie.Need-make-key-requires
+make-key-requires c κs = search needs
+
+same-length : tie.Need-same-length
+same-length c = search needs
+
+returns : tie.Need-returns
+returns c =
+    let m = c .before .before in
+    let k = m .before .before in
+    let s = k .before .before .before .before .before in
+    let a = s .args in
+    part-put (a .shares .now) (a .at) (publicShareLength (a .n)) (k .public-share-length .result)
+    (λ room. keyOutcome (a .n) (a .expander) (a .string .now) (a .seed0 .now) (a .seed1 .now) room .written)
+    (m .make-key .last .1 .1 .1 .1 .1 .0) (k .public-share-length .ensures) (s .pre .0) (s .pre .1) (ap (λ (x : Exit). x .space) (m .make-key .ensures))
+
+pub write-key-spec : {M : Type 1} → statement M
+write-key-spec =
+    tie.close
+    (tie.spec
+    public-share-length-requires
+    add-end
+    sub-make-key
+    part-make-key-start
+    part-make-key-end
+    make-key-requires
+    same-length
+    returns)

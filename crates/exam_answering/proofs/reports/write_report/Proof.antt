@@ -1,0 +1,135 @@
+-- `exam_answering::reports::write_report` meets its contract: the key of what was read is that of the line. Assumes nothing.
+use mathlib.Core.Path.{_≡_, sym, ap, ap₂, _∙_}
+use Prim.Native.Nat.{ℕ, _*_}
+use native.Mathlib.Omega.{arith}
+use lib.ListN.{length, take}
+use lib.Seq.{length-take-le}
+use Rattle.places.specs.Places.{putAt}
+use Rattle.point.specs.PublicShare.{publicShareLength}
+use Rattle.keymaker.specs.Key.{keyOutcome}
+use Rattle.exam_reading.specs.Sheet.{Line}
+use Rattle.exam_reading.specs.Reader.{lineAt}
+use Rattle.exam_reading.proofs.Values.{four-length}
+use Rattle.exam_reading.proofs.Placed.{Sound, stands-sound}
+use Rattle.exam_answering.proofs.LineKeys.{keyOf, key-size, key-read}
+use borrow.Author.Needs.{needs}
+use Rattle.exam_answering.proofs.reports.write_report.Statement.{statement}
+use Rattle.exam_answering.proofs.reports.write_report.Tie as tie
+
+-- ---- what was read
+
+abbrev packed : tie.After-public-share-length → tie.After-packed-length
+packed k = k .before .before .before .before .before .before .before .before .before .before .before .before .before
+
+abbrev read : tie.After-public-share-length → tie.After-read-line
+read k = packed k .before .before .before .before
+
+abbrev start : tie.After-public-share-length → tie.Start
+start k = read k .before .before .before .before .before
+
+abbrev line : tie.After-public-share-length → Line
+line k = let a = start k .args in lineAt (a .n) (a .at) (a .text .now)
+
+sound : (k : tie.After-public-share-length) → Sound (start k .args .n) (line k)
+sound k = let a = start k .args in stands-sound (a .n) (a .at) (a .text .now) (start k .pre .0 .3)
+
+-- the key of what was read is that of the line
+made : (k : tie.After-public-share-length) → let r = read k .read-line .result in let a = start k .args in
+    keyOutcome (a .n) (a .expander) (take (packed k .packed-length .result) (r .string)) (r .seed0) (r .seed1) (publicShareLength (a .n)) .written
+    ≡ keyOf (a .n) (a .expander) (line k)
+made k =
+    let e = read k .read-line .ensures in
+    key-read (start k .args .n) (start k .args .expander) _ (line k) _ _ _ (start k .pre .0 .1) (sound k) (packed k .packed-length .ensures) (e .0) (e .1 .0) (e .1 .1)
+
+-- its string is four bytes
+four : (r : tie.After-read-line) → length (r .read-line .result .string) ≡ 4
+four r = ap length (r .read-line .ensures .0) ∙ four-length _
+
+-- ---- the needs
+
+read-line-requires : tie.Need-read-line-requires
+read-line-requires c κs = search needs
+
+packed-length-requires : tie.Need-packed-length-requires
+packed-length-requires c κs = search needs
+
+mul-write16 : tie.Need-mul-write16
+mul-write16 c = omega (arith, c .before .before .before .before .before .before .before .before .before .before .pre .1 .0)
+
+write16-requires : tie.Need-write16-requires
+write16-requires c κs = search needs
+
+mul-write16-2 : tie.Need-mul-write16-2
+mul-write16-2 c = omega (arith, c .before .before .before .before .before .before .before .before .before .before .before .before .before .before .pre .1 .0)
+
+write16-requires-2 : tie.Need-write16-requires-2
+write16-requires-2 c κs = search needs
+
+array-share-prefix-string : tie.Need-array-share-prefix-string
+array-share-prefix-string c = omega (arith, c .before .before .before .before .before .before .before .before .packed-length .ensures, c .before .before .before .before .before .before .before .before .before .before .before .before .before .before .before .before .before .pre .0 .1, four (c .before .before .before .before .before .before .before .before .before .before .before .before))
+
+slice-aggregate-write-key : tie.Need-slice-aggregate-write-key
+slice-aggregate-write-key c =
+    sym (length-take-le (c .before .before .before .before .before .before .before .before .before .packed-length .result) (c .before .before .before .before .before .before .before .before .before .before .before .before .before .read-line .result .string)
+    (omega (arith, c .before .before .before .before .before .before .before .before .before .packed-length .ensures, c .before .before .before .before .before .before .before .before .before .before .before .before .before .before .before .before .before .before .pre .0 .1, four (c .before .before .before .before .before .before .before .before .before .before .before .before .before))))
+
+slice-aggregate-write-key-2 : tie.Need-slice-aggregate-write-key-2
+slice-aggregate-write-key-2 c = search needs
+
+slice-aggregate-write-key-3 : tie.Need-slice-aggregate-write-key-3
+slice-aggregate-write-key-3 c = search needs
+
+public-share-length-requires : tie.Need-public-share-length-requires
+public-share-length-requires c κs = search needs
+
+mul-write-key : tie.Need-mul-write-key
+mul-write-key c = rw (c .public-share-length .ensures) (omega (arith, start c .pre .1 .2, start c .good .1 .1 .1 .1 .1 .1 .1 .0 .0))
+
+write-key-requires : tie.Need-write-key-requires
+write-key-requires c κs =
+    let s = start c in
+    let a = s .args in
+    (rw (c .public-share-length .ensures) (s .pre .1 .2), ap length (made c) ∙ key-size (a .n) (a .expander) (s .pre .0 .0) (s .pre .0 .1) (s .pre .0 .2) (line c) (sound c))
+
+same-length : tie.Need-same-length
+same-length c = search needs
+
+same-length-2 : tie.Need-same-length-2
+same-length-2 c = search needs
+
+same-length-3 : tie.Need-same-length-3
+same-length-3 c = search needs
+
+returns : tie.Need-returns
+returns c =
+    let k = c .before .before .before in
+    let a = start k .args in
+    let e = read k .read-line .ensures in (
+      c .before .before .before .before .before .before .before .before .before .before .before .before .before .before .write16 .ensures ∙ ap (putAt (a .seeds0 .now) (16 * a .i)) (e .1 .0),
+      (
+        c .before .before .before .before .before .before .before .before .before .before .write162 .ensures ∙ ap (putAt (a .seeds1 .now) (16 * a .i)) (e .1 .1),
+        c .before .before .write-key .ensures ∙ ap₂ (putAt (a .shares .now)) (ap (λ (w : ℕ). w * a .i) (k .public-share-length .ensures)) (made k),
+      ),
+    )
+
+pub write-report-spec : {M : Type 1} → statement M
+write-report-spec =
+    tie.close
+    (tie.spec
+    read-line-requires
+    packed-length-requires
+    mul-write16
+    write16-requires
+    mul-write16-2
+    write16-requires-2
+    array-share-prefix-string
+    slice-aggregate-write-key
+    slice-aggregate-write-key-2
+    slice-aggregate-write-key-3
+    public-share-length-requires
+    mul-write-key
+    write-key-requires
+    same-length
+    same-length-2
+    same-length-3
+    returns)

@@ -1,0 +1,57 @@
+// Exam text in, answer text out.
+use crate::solving::solve;
+use calls::Reply;
+use exam_lines::refused_line;
+use exam_reading::read_sheet;
+ghost use mathlib.Core.Path.{_≡_};
+ghost use lib.ListN.{length};
+ghost use Rattle.calls.specs.Outcome.{exit, left};
+ghost use Rattle.exam_answering.specs.Exam.{examExit, respondOutcome};
+
+mod printing;
+mod reports;
+mod solving;
+
+// A refusal with this number.
+fn refusal(number: u64) -> Reply
+    ensures { λ r. ⌜ (r .number ≡ number) × (r .length ≡ 0) ⌝ }
+{
+    Reply { number, length: 0 }
+}
+
+// Answers an exam text: a line for each queried prefix, then the heavy strings; refuses with 10, 1, 2, 3 or 11.
+pub fn answer(text: &[u8], out: &mut [u8]) -> Reply
+    ensures { λ r. ⌜ left r (now (out .exit)) ≡ examExit (now (text .entry)) (now (out .entry)) ⌝ }
+{
+    let sheet = read_sheet(text);
+    let n = sheet.n;
+    let t = sheet.t;
+    let expander = sheet.expander;
+    if !sheet.is_sheet {
+        return refusal(10);
+    }
+    if n < 1 {
+        return refusal(1);
+    }
+    if calls::threshold_outside(t) {
+        return refusal(2);
+    }
+    if !expander::is_expander(expander) {
+        return refusal(3);
+    }
+    solve(text, n, t, expander, sheet.count, sheet.lines, out)
+}
+
+// Writes the whole output for an exam text: the answer, or the line of the refusal; refuses with 11 where it does not fit.
+pub fn respond(text: &[u8], out: &mut [u8]) -> Reply
+    ensures { λ r. ⌜ left r (now (out .exit)) ≡ exit (respondOutcome (now (text .entry)) (length (now (out .entry)))) (now (out .entry)) ⌝ }
+{
+    let reply = answer(text, out);
+    if reply.number == 0 {
+        return reply;
+    }
+    if reply.number == 11 {
+        return reply;
+    }
+    refused_line(reply.number, out)
+}

@@ -1,0 +1,149 @@
+// The search of a sheet, and its answer.
+use crate::printing::print;
+use crate::reports::write_reports;
+use calls::Reply;
+use nodes::public_share_length;
+use places::copy;
+ghost use mathlib.Core.Path.{_≡_};
+ghost use mathlib.Core.Bool.{true};
+ghost use Prim.Native.Nat.{_≤_};
+ghost use lib.ListN.{length, drop};
+ghost use Rattle.places.specs.Places.{overlay};
+ghost use Rattle.exam_lines.specs.Lines.{writtenIn};
+ghost use Rattle.expander.specs.Expander.{isExpander};
+ghost use Rattle.search.specs.Search.{lent};
+ghost use Rattle.honest.specs.Honest.{Accepted, recordRead, listRead};
+ghost use Rattle.exam_reading.specs.Reader.{isSheet, sheetOf, afterFirstLine};
+ghost use Rattle.exam_answering.specs.Answer.{answerText};
+ghost use Rattle.exam_reading.proofs.Records.{Rounds};
+ghost use Rattle.exam_answering.specs.Printing.{printed, roundLength};
+
+// Prints the record and the list of a search that is accepted; both servers are lent the same public shares.
+fn search_printed(
+    n: u16,
+    t: u64,
+    expander: u64,
+    seeds0: &[u8],
+    seeds1: &[u8],
+    shares: &[u8],
+    area: &mut [u8],
+    list: &mut [u8],
+    out: &mut [u8],
+) -> usize
+    requires { ⌜ (1 ≤ n) × (n ≤ 32) × Accepted (lent n t expander (now seeds0) (now shares) (now seeds1) (now shares) (now area) (now list)) ⌝ }
+    requires { ⌜ Rounds roundLength n (recordRead (lent n t expander (now seeds0) (now shares) (now seeds1) (now shares) (now area) (now list))) ⌝ }
+    requires { ⌜ length (printed n (recordRead (lent n t expander (now seeds0) (now shares) (now seeds1) (now shares) (now area) (now list)))
+        (listRead (lent n t expander (now seeds0) (now shares) (now seeds1) (now shares) (now area) (now list)))) ≤ length (now out) ⌝ }
+    ensures { λ r. ⌜ r ≡ length (printed n (recordRead (lent n t expander (now (seeds0 .entry)) (now (shares .entry)) (now (seeds1 .entry))
+        (now (shares .entry)) (now (area .entry)) (now (list .entry)))) (listRead (lent n t expander (now (seeds0 .entry)) (now (shares .entry))
+        (now (seeds1 .entry)) (now (shares .entry)) (now (area .entry)) (now (list .entry))))) ⌝ }
+    ensures { λ _. ⌜ now (out .exit) ≡ overlay (printed n (recordRead (lent n t expander (now (seeds0 .entry)) (now (shares .entry)) (now (seeds1 .entry))
+        (now (shares .entry)) (now (area .entry)) (now (list .entry)))) (listRead (lent n t expander (now (seeds0 .entry)) (now (shares .entry))
+        (now (seeds1 .entry)) (now (shares .entry)) (now (area .entry)) (now (list .entry))))) (now (out .entry)) ⌝ }
+{
+    let found = search::search(
+        n as u64,
+        t,
+        expander,
+        seeds0,
+        shares,
+        seeds1,
+        shares,
+        area,
+        list,
+    );
+    let record_end = found.record_length as usize;
+    let list_end = found.list_length as usize;
+    print(n, &area[..record_end], &list[..list_end], out)
+}
+
+// Searches the sheet of a text, whose first line says n, t, the expander and the count of lines and ends before place `at`; and prints its answer
+// from the beginning of `out` on. It is lent the space for 32 reports, for a record and for a list.
+fn print_answer(
+    text: &[u8],
+    n: u16,
+    t: u64,
+    expander: u64,
+    count: u16,
+    at: usize,
+    seeds0: &mut [u8],
+    seeds1: &mut [u8],
+    shares: &mut [u8],
+    area: &mut [u8],
+    list: &mut [u8],
+    out: &mut [u8],
+) -> usize
+    requires { ⌜ (isSheet (now text) ≡ true) × (1 ≤ n) × (n ≤ 32) × (1 ≤ t) × (t ≤ 65535) × (isExpander expander ≡ true) × (count ≤ 32) ⌝ }
+    requires { ⌜ (n ≡ sheetOf (now text) .n) × (t ≡ sheetOf (now text) .t) × (count ≡ length (sheetOf (now text) .lines)) ×
+        (drop at (now text) ≡ afterFirstLine (now text)) ⌝ }
+    requires { ⌜ (length (now seeds0) ≡ 512) × (length (now seeds1) ≡ 512) × (length (now shares) ≡ 24832) × (length (now area) ≡ 19374) ×
+        (length (now list) ≡ 128) × (length (now out) ≡ 43232) ⌝ }
+    ensures { λ r. ⌜ (r ≡ length (answerText (sheetOf (now (text .entry))))) × (r ≤ 43232) ⌝ }
+    ensures { λ _. ⌜ now (out .exit) ≡ overlay (answerText (sheetOf (now (text .entry)))) (now (out .entry)) ⌝ }
+{
+    write_reports(text, at, n, expander, count, seeds0, seeds1, shares);
+    let seeds_end = 16 * (count as usize);
+    let shares_end = public_share_length(n) * (count as usize);
+    search_printed(
+        n,
+        t,
+        expander,
+        &seeds0[..seeds_end],
+        &seeds1[..seeds_end],
+        &shares[..shares_end],
+        area,
+        list,
+        out,
+    )
+}
+
+// Answers a sheet to which no cause before 11 applies, in space of its own.
+pub(crate) fn solve(
+    text: &[u8],
+    n: u16,
+    t: u64,
+    expander: u64,
+    count: u16,
+    at: usize,
+    out: &mut [u8],
+) -> Reply
+    requires { ⌜ (isSheet (now text) ≡ true) × (1 ≤ n) × (n ≤ 32) × (1 ≤ t) × (t ≤ 65535) × (isExpander expander ≡ true) × (count ≤ 32) ⌝ }
+    requires { ⌜ (n ≡ sheetOf (now text) .n) × (t ≡ sheetOf (now text) .t) × (count ≡ length (sheetOf (now text) .lines)) ×
+        (drop at (now text) ≡ afterFirstLine (now text)) ⌝ }
+    ensures { λ r. ⌜ r .number ≡ writtenIn (answerText (sheetOf (now (text .entry)))) (length (now (out .entry))) .number ⌝ }
+    ensures { λ r. ⌜ r .length ≡ length (writtenIn (answerText (sheetOf (now (text .entry)))) (length (now (out .entry))) .written) ⌝ }
+    ensures { λ _. ⌜ now (out .exit) ≡ overlay (writtenIn (answerText (sheetOf (now (text .entry)))) (length (now (out .entry))) .written)
+        (now (out .entry)) ⌝ }
+{
+    let mut seeds0 = [0u8; 512];
+    let mut seeds1 = [0u8; 512];
+    let mut shares = [0u8; 24832];
+    let mut area = [0u8; 19374];
+    let mut list = [0u8; 128];
+    let mut printed = [0u8; 43232];
+    let end = print_answer(
+        text,
+        n,
+        t,
+        expander,
+        count,
+        at,
+        &mut seeds0,
+        &mut seeds1,
+        &mut shares,
+        &mut area,
+        &mut list,
+        &mut printed,
+    );
+    if out.len() < end {
+        return Reply {
+            number: 11,
+            length: 0,
+        };
+    }
+    copy(&printed[..end], out, 0);
+    Reply {
+        number: 0,
+        length: end as u64,
+    }
+}

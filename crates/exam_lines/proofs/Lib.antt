@@ -1,0 +1,4 @@
+pub mod LastDigit
+pub mod PrintedBits
+pub mod PrintedParts
+pub mod LineRoom

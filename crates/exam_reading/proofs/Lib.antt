@@ -1,0 +1,17 @@
+pub mod Decimals
+pub mod NumberText
+pub mod LineFields
+pub mod LineParts
+pub mod LinesText
+pub mod FirstLineText
+pub mod ReaderExact
+pub mod Digits
+pub mod Field
+pub mod FirstLine
+pub mod LineTests
+pub mod SheetTests
+pub mod Values
+pub mod Placed
+pub mod TextLengths
+pub mod Examples
+pub mod Records

@@ -1,0 +1,36 @@
+-- `exam_reading::lines::are_lines` meets its contract. Assumes nothing.
+use Prim.Native.Nat.{_+_, _*_, _≤_}
+use native.Mathlib.Nat.{mul-le-mul}
+use native.Mathlib.Omega.{arith}
+use mathlib.Core.Path.{sym}
+use borrow.Author.Needs.{needs}
+use lib.ListN.{length-drop, drop}
+use Rattle.exam_reading.proofs.LineTests.{other-length}
+use Rattle.exam_reading.proofs.lines.are_lines.Statement.{statement}
+use Rattle.exam_reading.proofs.lines.are_lines.Tie as tie
+
+sub-if1 : tie.Need-sub-if1
+sub-if1 c = search needs
+
+add-if1 : tie.Need-add-if1
+add-if1 c = search needs
+
+mul-if1 : tie.Need-mul-if1
+mul-if1 c =
+    let a = c .before .args in
+    let h : a .count * (a .n + 67) ≤ 32 * 99 = mul-le-mul {n₂ = 32} {m₂ = 99} (omega arith) (omega arith) in
+    omega arith
+
+returns : tie.Need-returns
+returns c =
+    let a = c .before .before .args in
+    sym (other-length (a .n) (a .count) (drop (a .at) (a .text .now)) (λ e. c .if1 .taken (omega (arith, length-drop (a .at) (a .text .now)))))
+
+all-lines-requires : tie.Need-all-lines-requires
+all-lines-requires c κs = search needs
+
+returns-2 : tie.Need-returns-2
+returns-2 c = search needs
+
+pub are-lines-spec : {M : Type 1} → statement M
+are-lines-spec = tie.close (tie.spec sub-if1 add-if1 mul-if1 returns all-lines-requires returns-2)

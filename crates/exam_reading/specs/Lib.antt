@@ -1,0 +1,4 @@
+pub mod Characters
+pub mod Sheet
+pub mod Reader
+pub mod Reading

@@ -1,0 +1,1 @@
+// The finite field GF(2^8). It has no code.

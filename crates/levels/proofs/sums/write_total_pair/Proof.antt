@@ -1,0 +1,68 @@
+-- `levels::sums::write_total_pair` meets its contract. Both prefixes are read before anything is written. Assumes nothing.
+use native.Mathlib.Omega.{arith}
+use mathlib.Core.Path.{_∙_}
+use borrow.Author.Needs.{needs}
+use Rattle.kept.specs.Kept.{reachesBy}
+use Rattle.tree.specs.Search.{isKept}
+use Rattle.places.proofs.Lists.{digit-le}
+use Rattle.levels.specs.Levels.{totalOf}
+use Rattle.levels.proofs.LevelTotals.{put-two, count-two}
+use Rattle.levels.proofs.sums.write_total_pair.Statement.{statement}
+use Rattle.levels.proofs.sums.write_total_pair.Tie as tie
+
+totals-at-requires : tie.Need-totals-at-requires
+totals-at-requires c κs = search needs
+
+write-le8-requires : tie.Need-write-le8-requires
+write-le8-requires c κs = search needs
+
+add-write-le8 : tie.Need-add-write-le8
+add-write-le8 c = search needs
+
+write-le8-requires-2 : tie.Need-write-le8-requires-2
+write-le8-requires-2 c κs = search needs
+
+one-if-kept-requires : tie.Need-one-if-kept-requires
+one-if-kept-requires c κs = search needs
+
+one-if-kept-requires-2 : tie.Need-one-if-kept-requires-2
+one-if-kept-requires-2 c κs = search needs
+
+add-result : tie.Need-add-result
+add-result c =
+    let r = c .before in
+    let t = r .before .before .before .before .before .before .before .before .before in
+    let y = t .totals-at .result in
+    let a = t .before .before .before .before .before .before .before .args in
+    omega (arith, r .one-if-kept .ensures, c .one-if-kept2 .ensures, digit-le (reachesBy (a .rule) (y .first)), digit-le (reachesBy (a .rule) (y .second)))
+
+same-length : tie.Need-same-length
+same-length c = search needs
+
+returns : tie.Need-returns
+returns c =
+    let r = c .before in
+    let v = r .before .before .before in
+    let w = v .before .before .before .before in
+    let t = w .before .before in
+    let told = t .totals-at .ensures in
+    let s = t .before .before .before .before .before .before .before in
+    let a = s .args in
+    let T = totalOf (a .e) (a .n) (a .seeds0 .now) (a .shares0 .now) (a .seeds1 .now) (a .shares1 .now) in (
+      put-two (a .k) (a .w) (s .pre .0) (a .from) (a .area .now) T (a .place) (s .pre .2) (told .0) (told .1) (w .write-le8 .ensures) (v .write-le82 .ensures),
+      count-two (a .k) (a .w) (s .pre .0) (a .from) (a .area .now) (isKept (reachesBy (a .rule)) T) (r .one-if-kept .ensures ∙ rw (told .0)) (c .one-if-kept2 .ensures ∙ rw (told .1)),
+    )
+
+pub write-total-pair-spec : {M : Type 1} → statement M
+write-total-pair-spec =
+    tie.close
+    (tie.spec
+    totals-at-requires
+    write-le8-requires
+    add-write-le8
+    write-le8-requires-2
+    one-if-kept-requires
+    one-if-kept-requires-2
+    add-result
+    same-length
+    returns)

@@ -1,0 +1,74 @@
+-- `walk::pairs::same_bits` meets its contract. The loop's invariant: the first k bits agree from place `from` on, which is the measure. Assumes nothing.
+use mathlib.Core.Path.{_≡_}
+use Prim.Native.Nat.{ℕ, _≤_}
+use native.Mathlib.Omega.{arith}
+use borrow.Author.Needs.{needs}
+use Rattle.bits.specs.Packing.{bitsOf}
+use Rattle.point.specs.Share.{bitOf}
+use Rattle.walk.proofs.Siblings.{SameFrom, same-none, same-all, same-more, same-not}
+use Rattle.walk.proofs.pairs.same_bits.Statement.{statement}
+use Rattle.walk.proofs.pairs.same_bits.Tie as tie
+
+abbrev Inv-loop : tie.InvT-loop
+Inv-loop first second k from₀ from = (from ≤ k) × SameFrom (bitOf (bitsOf first)) (bitOf (bitsOf second)) k from
+
+abbrev μ-loop : tie.MeasureT-loop
+μ-loop first second k from₀ from = from
+
+loop-holds : tie.Need-loop-holds Inv-loop μ-loop
+loop-holds c = let a = c .before .before .args in (omega arith, same-none (bitOf (bitsOf (a .first .now))) (bitOf (bitsOf (a .second .now))) (a .k))
+
+sub-from : tie.Need-sub-from Inv-loop μ-loop
+sub-from c = omega arith
+
+bit-at-requires : tie.Need-bit-at-requires Inv-loop μ-loop
+bit-at-requires c κs = search needs
+
+bit-at-requires-2 : tie.Need-bit-at-requires-2 Inv-loop μ-loop
+bit-at-requires-2 c κs = search needs
+
+returns : tie.Need-returns Inv-loop μ-loop
+returns c =
+    let y = c .before in
+    let x = y .before in
+    let l = x .before .before in
+    let a = l .before .before .before .args in (
+      (λ e. let z : _≡_ {A = ℕ} 0 1 = cc in absurd (omega arith)),
+      (λ e s. same-not (bitOf (bitsOf (a .first .now))) (bitOf (bitsOf (a .second .now))) (a .k) (l .loop .from) (x .before .loop-test .taken) (x .bit-at .ensures) (y .bit-at2 .ensures) (c .if1 .taken) (l .loop .inv .0) s),
+    )
+
+loop-less : tie.Need-loop-less Inv-loop μ-loop
+loop-less c = omega arith
+
+loop-again : tie.Need-loop-again Inv-loop μ-loop
+loop-again c =
+    let y = c .before in
+    let x = y .before in
+    let l = x .before .before in
+    let a = l .before .before .before .args in (
+      omega arith,
+      same-more (bitOf (bitsOf (a .first .now))) (bitOf (bitsOf (a .second .now))) (a .k) (l .loop .from) (x .before .loop-test .taken) (x .bit-at .ensures) (y .bit-at2 .ensures) (c .if1 .left) (l .loop .inv .1),
+    )
+
+returns-2 : tie.Need-returns-2 Inv-loop μ-loop
+returns-2 c =
+    let l = c .before in
+    let a = l .before .before .before .args in (
+      (λ e. same-all (bitOf (bitsOf (a .first .now))) (bitOf (bitsOf (a .second .now))) (a .k) (l .loop .from) (c .loop-test .left) (l .loop .inv .1)),
+      (λ e. let z : _≡_ {A = ℕ} 0 1 = cc in absurd (omega arith)),
+    )
+
+pub same-bits-spec : {M : Type 1} → statement M
+same-bits-spec =
+    tie.close
+    (tie.spec
+    Inv-loop
+    μ-loop
+    loop-holds
+    sub-from
+    bit-at-requires
+    bit-at-requires-2
+    returns
+    loop-less
+    loop-again
+    returns-2)

@@ -1,0 +1,25 @@
+-- `walk::steps::corrected_child` meets its contract. Assumes nothing.
+use mathlib.Core.Path.{ap₂, _∙_}
+use Rattle.point.specs.Correction.{corrected, correctedChild}
+use borrow.Author.Needs.{needs}
+use Rattle.walk.proofs.steps.corrected_child.Statement.{statement}
+use Rattle.walk.proofs.steps.corrected_child.Tie as tie
+
+bit-correction-requires : tie.Need-bit-correction-requires
+bit-correction-requires c κs = search needs
+
+child-requires : tie.Need-child-requires
+child-requires c κs = search needs
+
+corrected-requires : tie.Need-corrected-requires
+corrected-requires c κs = search needs
+
+returns : tie.Need-returns
+unfolding correctedChild
+returns c =
+    let a = c .before .before .before .before .before .args in
+    c .corrected .ensures ∙ ap₂ (corrected (a .m .bit) (a .c .seed)) (c .before .before .bit-correction .ensures) (c .before .child .ensures)
+
+pub corrected-child-spec : {M : Type 1} → statement M
+corrected-child-spec =
+    tie.close (tie.spec bit-correction-requires child-requires corrected-requires returns)

@@ -1,0 +1,21 @@
+-- `walk::steps::descend` meets its contract. Assumes nothing.
+use Rattle.nodes.specs.Layout.{nodeOf, correctionOf}
+use Rattle.walk.proofs.Descent.{descend-block}
+use borrow.Author.Needs.{needs}
+use Rattle.walk.proofs.steps.descend.Statement.{statement}
+use Rattle.walk.proofs.steps.descend.Tie as tie
+
+corrected-child-requires : tie.Need-corrected-child-requires
+corrected-child-requires c κs = search needs
+
+block-requires : tie.Need-block-requires
+block-requires c κs = search needs
+
+returns : tie.Need-returns
+returns c =
+    let h = c .before .before in
+    let a = h .before .args in
+    descend-block (a .e) (correctionOf (a .c)) (a .x) (nodeOf (a .m)) (nodeOf (h .corrected-child .result)) (h .corrected-child .ensures) (c .block .ensures)
+
+pub descend-spec : {M : Type 1} → statement M
+descend-spec = tie.close (tie.spec corrected-child-requires block-requires returns)
