@@ -60,5 +60,3 @@ pub fn write_child(prefix: &[u8], len: usize, bit: bool, out: &mut [u8], at: usi
     }
     put_child(prefix, len / 8, len % 8, bit, out, at);
 }
-
-// Writes the packed prefix in the w bytes of `source` from place `from` on into the places of `out` from `at` on, if it is kept; and the place after

@@ -56,7 +56,7 @@ pub fn combine(
     if out.len() < next_size {
         return Combined::Refused(11);
     }
-    query::write_heading(out, 0, len as u64, 2 * kept as u64);
+    query::write_fields(out, 0, len as u64, 2 * kept as u64);
     write_kept(false, rule, query, share0, share1, out, 6);
     Combined::Next(next_size as u64)
 }

@@ -27,23 +27,24 @@ use Rattle.exam_answering.proofs.ExamTheorems as exam
 use Rattle.exam_answering.proofs.Outputs as outputs
 use Rattle.capi.specs.Block.{blockCauses, blockOutcome}
 use Rattle.capi.proofs.Block.{block-due}
-use Rattle.demands.specs.Calls.{BlockLent, SearchLent, makeKey, serverShare, combining, wholeSearch, examAnswer, refusedLine, examOutput, oneBlock, Result, into, causes, result}
+use Rattle.demands.specs.Calls.{BlockLent, SearchLent, makeKey, serverShare, combining, wholeSearch, examAnswer, refusedLine, examOutput, oneBlock, Result, into, causes, InOrder, result}
 use Rattle.demands.specs.Demands.{AfterRefusal, AfterSuccess, Demand1}
 
 -- what demand 1 says of a call with the causes cs
 abbrev Kept : List Cause → Result → Type 0
 Kept cs l =
-    Due cs (l .number) × ((k : ℕ) → Due cs k → k ≡ l .number)
+    InOrder cs × Due cs (l .number) × ((k : ℕ) → Due cs k → k ≡ l .number)
     × (l .number ≢ 0 → All (AfterRefusal (l .number)) (l .areas))
     × (l .number ≢ 0 → l .kind ≡ none)
     × (l .number ≡ 0 → All AfterSuccess (l .areas))
 
 -- a call that writes into one area
-one : (cs : List Cause) (out : List ℕ) (kind : Option Kind) (o : Outcome) → Due cs (o .number) × ((k : ℕ) → Due cs k → k ≡ o .number)
+one : (cs : List Cause) → InOrder cs → (out : List ℕ) (kind : Option Kind) (o : Outcome) → Due cs (o .number) × ((k : ℕ) → Due cs k → k ≡ o .number)
     → (o .number ≢ 0 → (o .written ≡ []) × (overlay (o .written) out ≡ out)) → (o .number ≢ 0 → kind ≡ none)
     → (o .number ≡ 0 → length (o .written) ≤ length out) → Kept cs (into out kind o)
 unfolding overlay
-one cs out kind o d refused unnamed fits = (
+one cs order out kind o d refused unnamed fits = (
+  order,
   d .0,
   d .1,
   λ h. let r = refused h in ((ap length (r .0), r .1), tt),
@@ -71,7 +72,7 @@ block-kept l =
     let d = block-due (l .expander) (l .seed) (l .j) (length (l .out)) in
     let own = blockCauses (l .expander) (l .seed) (length (l .out)) in
     let bytes = under (choiceOf (l .expander)) (λ x. blockOf x (l .seed) (l .j)) in
-    one (causes (oneBlock l)) (l .out) none (judged own bytes)
+    one (causes (oneBlock l)) (omega arith & omega arith & tt) (l .out) none (judged own bytes)
     (d, λ k h. due-unique (causes (oneBlock l)) h d)
     (λ h. untouched (l .out) (judged-refused own bytes h))
     (λ h. refl)
@@ -97,6 +98,7 @@ search-kept l =
     let s = l .lent in
     let d = call.search-number s (l .bytes .1 .0) (l .bytes .1 .1 .1 .0) in
     let sizes = call.area-lengths s in (
+      omega arith & omega arith & omega arith & omega arith & omega arith & omega arith & omega arith & omega arith & tt,
       d .0,
       d .1,
       λ h. let r = call.search-refused s h in ((r .0, record-left s h), ((r .1, r .2), tt)),
@@ -117,26 +119,26 @@ search-kept l =
 pub demand-1 : Demand1
 demand-1 (makeKey l) =
     let same = call.key-number (l .n) (l .expander) (l .string) (l .seed0) (l .seed1) (l .out) in
-    one (causes (makeKey l)) (l .out) none _ same (call.key-refused (l .n) (l .expander) (l .string) (l .seed0) (l .seed1) (l .out)) (λ h. refl)
+    one (causes (makeKey l)) (omega arith & omega arith & omega arith & omega arith & tt) (l .out) none _ same (call.key-refused (l .n) (l .expander) (l .string) (l .seed0) (l .seed1) (l .out)) (λ h. refl)
     (λ h. let w = call.key-written (l .n) (l .expander) (l .string) (l .seed0) (l .seed1) (l .out) (l .bytes .1 .0) (l .bytes .1 .1 .0) h in rw (w .0) (w .1))
 demand-1 (serverShare l) =
     let same = call.share-number (l .n) (l .expander) (l .server) (l .seeds) (l .publicShares) (l .query) (l .out) (l .bytes .1 .0) (l .bytes .1 .1 .0) in
-    one (causes (serverShare l)) (l .out) none _ same
+    one (causes (serverShare l)) (omega arith & omega arith & omega arith & omega arith & omega arith & omega arith & omega arith & tt) (l .out) none _ same
     (call.share-refused (l .n) (l .expander) (l .server) (l .seeds) (l .publicShares) (l .query) (l .out)) (λ h. refl)
     (λ h. let w = call.share-written (l .n) (l .expander) (l .server) (l .seeds) (l .publicShares) (l .query) (l .out) h in rw (w .0) (w .1))
 demand-1 (combining l) =
     let same = call.combine-number (l .n) (l .t) (l .query) (l .share0) (l .share1) (l .out) (l .bytes .0) in
     let refused = call.combine-refused (l .n) (l .t) (l .query) (l .share0) (l .share1) (l .out) in
-    one (causes (combining l)) (l .out) _ _ same (λ h. (refused h .0, refused h .1)) (λ h. refused h .2)
+    one (causes (combining l)) (omega arith & omega arith & omega arith & omega arith & omega arith & tt) (l .out) _ _ same (λ h. (refused h .0, refused h .1)) (λ h. refused h .2)
     (λ h. call.combine-written (l .n) (l .t) (l .query) (l .share0) (l .share1) (l .out) h .2)
 demand-1 (wholeSearch l) = search-kept l
 demand-1 (examAnswer l) =
-    one (causes (examAnswer l)) (l .out) none _ (exam.exam-number (l .text) (l .out)) (exam.exam-refused (l .text) (l .out)) (λ h. refl)
+    one (causes (examAnswer l)) (omega arith & omega arith & omega arith & omega arith & tt) (l .out) none _ (exam.exam-number (l .text) (l .out)) (exam.exam-refused (l .text) (l .out)) (λ h. refl)
     (λ h. let w = exam.exam-written (l .text) (l .out) h in rw (w .3) (w .4))
 demand-1 (refusedLine l) =
-    one (causes (refusedLine l)) (l .out) none _ (outputs.line-number (l .refusal) (l .out)) (outputs.line-refused (l .refusal) (l .out)) (λ h. refl)
+    one (causes (refusedLine l)) tt (l .out) none _ (outputs.line-number (l .refusal) (l .out)) (outputs.line-refused (l .refusal) (l .out)) (λ h. refl)
     (λ h. let w = outputs.line-written (l .refusal) (l .out) h in rw (w .0) (w .1))
 demand-1 (examOutput l) =
-    one (causes (examOutput l)) (l .out) none _ (outputs.respond-number (l .text) (l .out)) (outputs.respond-refused (l .text) (l .out)) (λ h. refl)
+    one (causes (examOutput l)) tt (l .out) none _ (outputs.respond-number (l .text) (l .out)) (outputs.respond-refused (l .text) (l .out)) (λ h. refl)
     (λ h. let w = outputs.respond-written (l .text) (l .out) h in rw (w .0) (w .1))
 demand-1 (oneBlock l) = block-kept l

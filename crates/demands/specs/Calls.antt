@@ -1,14 +1,14 @@
 -- Every call with all that it is lent, its causes, and what it returns and leaves, each by its own definitions. Assumes nothing.
-use Prim.Native.Nat.{ℕ}
-use mathlib.Core.Bool.{Bool, true, false}
+use Prim.Native.Nat.{ℕ, _<_}
+use mathlib.Core.Bool.{Bool, true, false, cond}
 use mathlib.Core.List.{List, [], _∷_}
 use mathlib.Core.Option.{Option, none}
 use lib.ListN.{length}
+use lib.Dec.{eqb}
 use Rattle.places.specs.Lists.{All}
-use Rattle.places.specs.Places.{overlay}
 use Rattle.calls.specs.Bounds.{spaceCause}
 use Rattle.calls.specs.Causes.{Cause}
-use Rattle.calls.specs.Outcome.{Outcome}
+use Rattle.calls.specs.Outcome.{Outcome, exit}
 use Rattle.keymaker.specs.Key.{keyCauses, keyOutcome}
 use Rattle.idpf.specs.Share.{shareCauses, shareOutcome}
 use Rattle.combine.specs.Answer.{Kind}
@@ -101,9 +101,20 @@ causes (refusedLine l) = spaceCause (length (refusedText (l .refusal))) (length 
 causes (examOutput l) = spaceCause (length (output (l .text))) (length (l .out)) ∷ []
 causes (oneBlock l) = blockCauses (l .expander) (l .seed) (length (l .out))
 
+-- where a number stands in document 01's order: 'The lowest number that applies is returned, except that 10 is judged first'
+abbrev pub rank : ℕ → ℕ
+rank k = cond (eqb k 10) 0 k
+
+-- the causes stand in that order
+abbrev pub InOrder : List Cause → Type 0
+InOrder [] = Unit {0}
+InOrder (c ∷ []) = Unit {0}
+InOrder (c ∷ d ∷ cs) = (rank (c .number) < rank (d .number)) × InOrder (d ∷ cs)
+
 -- ---- what a call returns and leaves
 
--- A lent area that a call may write (what it only reads is lent by `&`, and cannot change): its bytes at entry and at exit, the length that is returned for it, and whether it is the record area of a search.
+-- A lent area that a call may write (what it only reads is lent by `&`, and cannot change): its bytes at entry and at exit, the length that is returned
+-- for it, and whether it is the record area of a search.
 pub record Area : Type 0 where
   pub entry : List ℕ
   pub exit : List ℕ
@@ -118,14 +129,12 @@ pub record Result : Type 0 where
 
 -- an outcome with its bytes in the place of the beginning of one area
 abbrev pub into : List ℕ → Option Kind → Outcome → Result
-into out kind o = record {
-  number = o .number;
-  areas = record { entry = out; exit = overlay (o .written) out; returned = length (o .written); isRecord = false } ∷ [];
-  kind = kind;
-}
+into out kind o =
+    let x = exit o out in
+    record { number = x .number; areas = record { entry = out; exit = x .space; returned = x .length; isRecord = false } ∷ []; kind = kind }
 
 -- what the contracts say of number, lengths and areas: `keyExit`, `shareExit`, `combineExit`, `searchEnding`, `examExit` and `blockExit` are these, part by
--- part, as `exit` of an outcome is its number, the length of what is written, and that in the place of the area's beginning
+-- part: `exit` of the same outcomes, and the search's own
 abbrev pub result : Call → Result
 result (makeKey l) = into (l .out) none (keyOutcome (l .n) (l .expander) (l .string) (l .seed0) (l .seed1) (length (l .out)))
 result (serverShare l) = into (l .out) none (shareOutcome (l .n) (l .expander) (l .server) (l .seeds) (l .publicShares) (l .query) (length (l .out)))

@@ -21,7 +21,7 @@ use Rattle.tree.specs.Cut.{cut, cuts, times, Rearranged}
 use Rattle.search.specs.Search.{Lent, countedNumber, thresholdOf, total}
 use Rattle.honest.specs.Honest.{Accepted, recordRead, listRead, Honest, countedStrings}
 use Rattle.honest.specs.Loop.{Passes, firstQuery}
-use Rattle.demands.specs.Calls.{Call, causes, Area, result}
+use Rattle.demands.specs.Calls.{Call, causes, InOrder, Area, result}
 use Rattle.demands.specs.Words.{Key, InBounds, made, pointKey, pointShare, pointSum, served, byCalls, Servable, Ready, Seeded, withShares}
 
 -- ==== Demand 1
@@ -39,8 +39,9 @@ AfterSuccess a =
 -- 'The program as a whole, library and exam program, ends on every input': that is the checker's claim for each function that it proves.
 abbrev pub Demand1 : Type 0
 Demand1 =
-    -- 'Every call checks what it is lent and refuses with the number that document 01 orders first': that number is due, and no other is.
-    (c : Call) → Due (causes c) (result c .number) × ((k : ℕ) → Due (causes c) k → k ≡ result c .number)
+    -- 'Every call checks what it is lent and refuses with the number that document 01 orders first': its causes stand in that order, and the number is
+    -- that of the first that applies, and no other is.
+    (c : Call) → InOrder (causes c) × Due (causes c) (result c .number) × ((k : ℕ) → Due (causes c) k → k ≡ result c .number)
     -- 'A refusal changes no lent buffer, except that a search refused for space or for too many prefixes leaves its record zeroed.'
     × (result c .number ≢ 0 → All (AfterRefusal (result c .number)) (result c .areas))
     -- Document 01: 'A refused combining names none of its three kinds of answer.'
@@ -111,7 +112,8 @@ Demand3 =
     -- equivalence above speaks of all of them; and no record is empty,
     × ((s : Lent) → Accepted s
     → (rest : List ℕ) × (recordRead s ≡ heading (countedNumber s) ++ (firstQuery ++ (totals (total s) (children start) ++ rest))))
-    -- 'A candidate must be able to work it out by hand, so no random noise may be added to the totals': the total of a prefix is the number of installations that hold it.
+    -- 'A candidate must be able to work it out by hand, so no random noise may be added to the totals': the total of a prefix is the number of
+    -- installations that hold it.
     × ((s : Lent) (xs : List Bits) → Honest s xs → Accepted s → (q : Bits) → 1 ≤ length q → length q ≤ s .n → total s q ≡ count (countedStrings s xs) q)
 
 -- ==== What is assumed

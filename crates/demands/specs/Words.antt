@@ -19,7 +19,7 @@ use Rattle.query.specs.Query.{OfLength}
 use Rattle.tree.specs.Space.{recordSpace, listSpace}
 use Rattle.keymaker.specs.Key.{keyOutcome}
 use Rattle.group.specs.Modular.{field}
-use Rattle.idpf.specs.Reports.{seedAt, allCount, sumWhere}
+use Rattle.report_sums.specs.Reports.{seedAt, allCount, sumWhere}
 use Rattle.idpf.specs.Share.{shareOutcome}
 use Rattle.search.specs.Search.{Lent, lent, thresholdOf}
 use Rattle.honest.specs.Honest.{countedStrings}

@@ -8,6 +8,7 @@ use lib.ListN.{length}
 use lib.Dec.{leb}
 use Rattle.bits.specs.Strings.{Bits, count}
 use Rattle.expander.specs.Expander.{isExpander}
+use Rattle.kept.specs.Kept.{reaches}
 use Rattle.query.specs.Query.{OfLength, packs}
 use Rattle.tree.specs.Search.{searchRecord, searchList}
 use Rattle.search.specs.Search.{Lent, thresholdOf, searchNumber}
@@ -41,10 +42,10 @@ module _ (s : Lent) (sheet : Sheet) (honest : Honest s (strings sheet)) (same-n 
   record-is : recordRead s ≡ searchRecord (leb (sheet .t)) (count (strings sheet)) (length (strings sheet)) (sheet .n)
   record-is =
       accepted-record s (strings sheet) honest ok
-      ∙ ap₂ (λ n t. searchRecord (leb t) (count (strings sheet)) (length (strings sheet)) n) same-n same-t
+      ∙ ap₂ (λ n t. searchRecord (reaches t) (count (strings sheet)) (length (strings sheet)) n) same-n same-t
 
   list-is : listRead s ≡ packs (searchList (leb (sheet .t)) (count (strings sheet)) (sheet .n))
-  list-is = accepted-list s (strings sheet) honest ok ∙ ap₂ (λ n t. packs (searchList (leb t) (count (strings sheet)) n)) same-n same-t
+  list-is = accepted-list s (strings sheet) honest ok ∙ ap₂ (λ n t. packs (searchList (reaches t) (count (strings sheet)) n)) same-n same-t
 
   -- What is printed of its record and its list is the sheet's answer.
   pub answer-printed : printed (s .n) (recordRead s) (listRead s) ≡ answerText sheet

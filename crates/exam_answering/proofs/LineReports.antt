@@ -14,7 +14,7 @@ use Rattle.expander.specs.Expander.{isExpander}
 use Rattle.point.specs.PublicShare.{joined, publicShareLength}
 use Rattle.point.proofs.Joined.{joined-length, joined-at, joined-byte}
 use Rattle.keymaker.specs.Key.{keyOutcome}
-use Rattle.idpf.specs.Reports.{seedAt}
+use Rattle.report_sums.specs.Reports.{seedAt}
 use Rattle.search.specs.Search.{Lent, lent}
 use Rattle.search.proofs.Outcome.{named-expander}
 use Rattle.honest.specs.Honest.{keyAt, Honest}

@@ -5,9 +5,9 @@ use native.Mathlib.Nat.{suc-mul, mul-le-mul, div-le-self}
 use mathlib.Core.Path.{_≡_, refl, ap}
 use mathlib.Core.List.{List, [], _∷_, _++_}
 use lib.ListN.{length, length-append, length-map}
-use lib.Dec.{leb}
 use Rattle.places.specs.Lists.{select}
 use Rattle.bits.specs.Strings.{Bits, count}
+use Rattle.kept.specs.Kept.{reaches}
 use Rattle.query.specs.Query.{OfLength, children}
 use Rattle.tree.specs.Search.{start, searchList}
 use Rattle.places.proofs.Lists.{all-map}
@@ -88,7 +88,7 @@ module _ (n t : ℕ) (xs : List Bits) (all : OfLength n xs) (some : 1 ≤ t) (fe
         lines-most m (suc k) kept v (omega arith) less,
       )
 
-  list-most : (m : ℕ) → m ≤ n → length (searchList (leb t) (count xs) m) ≤ 32
+  list-most : (m : ℕ) → m ≤ n → length (searchList (reaches t) (count xs) m) ≤ 32
   unfolding searchList
   list-most zero l = omega arith
   list-most (suc m) l = omega (arith, kept-length n t xs all some m l, div-le-self (length xs) t)
@@ -99,7 +99,7 @@ unfolding answerText
 answer-most s w some =
     let xs = strings s in
     let few : length xs ≤ 32 = omega (arith, length-map (s .lines) (λ l. l .string), w .lines-most) in
-    let ss = searchList (leb (s .t)) (count xs) (s .n) in
+    let ss = searchList (reaches (s .t)) (count xs) (s .n) in
     let lines = prefixLines (count xs) (queried (s .n) (s .t) xs) in
     let wide : s .n + 7 ≤ 39 = omega (arith, w .n-most) in
     omega (
@@ -108,6 +108,6 @@ answer-most s w some =
       lines-most (s .n) (s .t) xs (w .n-bits) some few (s .n) 0 start (stands-start (s .t) xs) (omega arith) (omega arith),
       most-grows (s .n) 32 0 (w .n-most),
       most-is,
-      heavy-lines-length (s .n) ss (list-length (leb (s .t)) (count xs) (s .n)),
+      heavy-lines-length (s .n) ss (list-length (reaches (s .t)) (count xs) (s .n)),
       mul-le-mul (list-most (s .n) (s .t) xs (w .n-bits) some few (s .n) (omega arith)) wide,
     )

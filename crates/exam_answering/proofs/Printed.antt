@@ -16,6 +16,7 @@ use Rattle.numbers.specs.Numbers.{little, fromLittle}
 use Rattle.bits.specs.Packing.{packedLength, pack, unpack}
 use Rattle.numbers.proofs.Endian.{little-length, fromLittle-little}
 use Rattle.bits.proofs.Packed.{pack-length, unpack-pack}
+use Rattle.kept.specs.Kept.{reaches}
 use Rattle.query.specs.Query.{OfLength, packs, query, limit, children}
 use Rattle.tree.specs.Search.{start, totals, fitsFrom, recordFrom, heading, isKept, searchRecord, searchList, searchFits}
 use Rattle.places.proofs.Lists.{and-left, and-right}
@@ -161,20 +162,20 @@ module _ (s : Sheet) (all : OfLength (s .n) (strings s)) (from : 1 ≤ s .n) (to
   small : (q : Bits) → count (strings s) q < 256 ^ 8
   small q = omega (arith, count-le (strings s) q)
 
-  fits : fitsFrom (isKept (leb (s .t)) (count (strings s))) (s .n) start ≡ true
+  fits : fitsFrom (isKept (reaches (s .t)) (count (strings s))) (s .n) start ≡ true
   unfolding searchFits
   fits = honest-fits (s .n) (s .t) (strings s) all some most
 
   -- What is printed of the record and of the list of a sheet's strings is the sheet's answer.
-  pub printed-answer : (C : ℕ) → printed (s .n) (searchRecord (leb (s .t)) (count (strings s)) C (s .n)) (packs (searchList (leb (s .t)) (count (strings s)) (s .n))) ≡ answerText s
+  pub printed-answer : (C : ℕ) → printed (s .n) (searchRecord (reaches (s .t)) (count (strings s)) C (s .n)) (packs (searchList (reaches (s .t)) (count (strings s)) (s .n))) ≡ answerText s
   unfolding printed answerText searchRecord heading
   printed-answer C =
-      let ss = searchList (leb (s .t)) (count (strings s)) (s .n) in
-      let bits = list-length (leb (s .t)) (count (strings s)) (s .n) in
-      ap₂ _++_ (record-printed (isKept (leb (s .t)) (count (strings s))) (count (strings s)) small (s .n) 0 start (refl, tt) (omega arith) fits)
+      let ss = searchList (reaches (s .t)) (count (strings s)) (s .n) in
+      let bits = list-length (reaches (s .t)) (count (strings s)) (s .n) in
+      ap₂ _++_ (record-printed (isKept (reaches (s .t)) (count (strings s))) (count (strings s)) small (s .n) 0 start (refl, tt) (omega arith) fits)
       (ap (λ c. listLines (s .n) c (packs ss)) (list-count (s .n) ss bits from) ∙ list-printed (s .n) ss bits)
 
   -- That record is at most n queries, each followed by its totals.
-  pub answer-rounds : (C : ℕ) → Rounds roundLength (s .n) (searchRecord (leb (s .t)) (count (strings s)) C (s .n))
+  pub answer-rounds : (C : ℕ) → Rounds roundLength (s .n) (searchRecord (reaches (s .t)) (count (strings s)) C (s .n))
   unfolding searchRecord heading
-  answer-rounds C = record-rounds (isKept (leb (s .t)) (count (strings s))) (count (strings s)) (s .n) 0 start (refl, tt) (omega arith) fits
+  answer-rounds C = record-rounds (isKept (reaches (s .t)) (count (strings s))) (count (strings s)) (s .n) 0 start (refl, tt) (omega arith) fits

@@ -11,6 +11,7 @@ use lib.ListN.{length, length-append}
 use lib.Dec.{leb}
 use Rattle.places.specs.Lists.{_∈_, All, select}
 use Rattle.bits.specs.Strings.{Bits, _▹_, isPrefix, count}
+use Rattle.kept.specs.Kept.{reaches}
 use Rattle.tree.specs.Search.{start, keptFrom, isKept, searchList}
 use Rattle.query.specs.Query.{children}
 use Rattle.tree.specs.Cut.{Heavy, prefixes}
@@ -74,7 +75,7 @@ module _ (t : ℕ) (xs : List Bits) where
   HeavyAbove q = (r : Bits) → isPrefix r q ≡ true → 1 ≤ length r → length r < length q → Heavy t xs r
 
   abbrev keeps : Bits → Bool
-  keeps = isKept (leb t) (count xs)
+  keeps = isKept (reaches t) (count xs)
 
   child-above : (k : ℕ) (p : Bits) (b : Bool) → Survives keeps k p → (length (p ▹ b) ≡ suc k) × HeavyAbove (p ▹ b)
   child-above k p b v = (
@@ -85,9 +86,9 @@ module _ (t : ℕ) (xs : List Bits) where
         leb-true t (count xs r) (all-mem (λ z. keeps z ≡ true) (open-prefixes keeps p .0 (v .1)) listed),
   )
 
-  kept-above : (p : Bits) (b : Bool) → HeavyAbove (p ▹ b) → p ∈ searchList (leb t) (count xs) (length p)
+  kept-above : (p : Bits) (b : Bool) → HeavyAbove (p ▹ b) → p ∈ searchList (reaches t) (count xs) (length p)
   kept-above p b above =
-      list-exact (leb t) (count xs) (length p) p .1 (
+      list-exact (reaches t) (count xs) (length p) p .1 (
         refl,
         all-from-mem (λ z. keeps z ≡ true) (prefixes p) (λ r m.
             let begins = prefixes-exact r p .0 m in
@@ -103,8 +104,8 @@ module _ (t : ℕ) (xs : List Bits) where
       to : q ∈ queried n t xs → (1 ≤ length q) × (length q ≤ n) × HeavyAbove q
       to i =
           let a = queried-asked keeps n start q i in
-          let kept = searchList (leb t) (count xs) (a .0) in
-          let all = all-children (Survives keeps (a .0)) (λ z. (length z ≡ suc (a .0)) × HeavyAbove z) (child-above (a .0)) kept (list-survives (leb t) (count xs) (a .0)) in
+          let kept = searchList (reaches t) (count xs) (a .0) in
+          let all = all-children (Survives keeps (a .0)) (λ z. (length z ≡ suc (a .0)) × HeavyAbove z) (child-above (a .0)) kept (list-survives (reaches t) (count xs) (a .0)) in
           let v = all-mem (λ z. (length z ≡ suc (a .0)) × HeavyAbove z) all (a .2) in
           (omega (arith, v .0), omega (arith, v .0, a .1), v .1)
 
@@ -114,4 +115,4 @@ module _ (t : ℕ) (xs : List Bits) where
           let less : length (r .0) < n = omega (arith, ap length (r .2), length-append (r .0) (r .1 ∷ [])) in
           let m = kept-above (r .0) (r .1) (subst HeavyAbove (r .2) above) in
           asked-queried keeps n start q (length (r .0)) less
-          (subst (λ z. z ∈ children (searchList (leb t) (count xs) (length (r .0)))) (sym (r .2)) (mem-children m (r .1)))
+          (subst (λ z. z ∈ children (searchList (reaches t) (count xs) (length (r .0)))) (sym (r .2)) (mem-children m (r .1)))

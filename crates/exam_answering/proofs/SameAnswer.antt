@@ -5,11 +5,11 @@ use mathlib.Core.Logic.{_↔_}
 use mathlib.Core.List.{List, _++_}
 use mathlib.Core.Option.{none, some}
 use lib.ListN.{length}
-use lib.Dec.{leb}
 use Rattle.places.specs.Lists.{_∈_}
 use Rattle.bits.specs.Strings.{Bits, isPrefix, count, Ascending}
 use Rattle.calls.specs.Outcome.{judged}
 use Rattle.expander.specs.Expander.{isExpander}
+use Rattle.kept.specs.Kept.{reaches}
 use Rattle.tree.specs.Search.{start, isKept, searchList}
 use Rattle.tree.specs.Cut.{Heavy, honestList, times, Rearranged}
 use Rattle.tree.proofs.Demands.{honest-exact, honest-ascending, honest-once}
@@ -24,7 +24,7 @@ use Rattle.exam_answering.proofs.Exam.{sheetCauses, sheet-outcome}
 
 -- the answer by n, t and the number of strings that have each prefix
 answerOf : ℕ → ℕ → (Bits → ℕ) → List ℕ
-answerOf n t T = prefixLines T (queriedFrom (isKept (leb t) T) n start) ++ heavyLines (searchList (leb t) T n)
+answerOf n t T = prefixLines T (queriedFrom (isKept (reaches t) T) n start) ++ heavyLines (searchList (reaches t) T n)
 
 same-counts : (s r : Sheet) → s .n ≡ r .n → s .t ≡ r .t → count (strings s) ≡ count (strings r) → answerText s ≡ answerText r
 unfolding answerText answerOf

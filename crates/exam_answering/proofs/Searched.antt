@@ -14,7 +14,7 @@ use Rattle.expander.specs.Expander.{isExpander}
 use Rattle.point.specs.PublicShare.{joined, publicShareLength}
 use Rattle.point.proofs.Joined.{joined-length, joined-at, joined-byte}
 use Rattle.keymaker.specs.Key.{keyOutcome}
-use Rattle.idpf.specs.Reports.{seedAt}
+use Rattle.report_sums.specs.Reports.{seedAt}
 use Rattle.search.specs.Search.{Lent, lent, thresholdOf}
 use Rattle.honest.specs.Honest.{Accepted, recordRead, listRead, Honest}
 use Rattle.honest.proofs.Pieces.{all-at}

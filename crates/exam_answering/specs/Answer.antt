@@ -2,9 +2,9 @@
 use Prim.Native.Nat.{ℕ, zero, suc}
 use mathlib.Core.Bool.{Bool}
 use mathlib.Core.List.{List, [], _∷_, _++_}
-use lib.Dec.{leb}
 use Rattle.places.specs.Lists.{select}
 use Rattle.bits.specs.Strings.{Bits, count}
+use Rattle.kept.specs.Kept.{reaches}
 use Rattle.tree.specs.Search.{start, isKept}
 use Rattle.query.specs.Query.{children}
 use Rattle.tree.specs.Cut.{honestList}
@@ -32,7 +32,7 @@ queriedFrom keeps (suc m) ps = children ps ++ queriedFrom keeps m (select keeps 
 
 -- the queried prefixes of a search for strings of n bits with threshold t among the strings xs, in the order of the record
 abbrev pub queried : ℕ → ℕ → List Bits → List Bits
-queried n t xs = queriedFrom (isKept (leb t) (count xs)) n start
+queried n t xs = queriedFrom (isKept (reaches t) (count xs)) n start
 
 -- a line for each queried prefix, with its total; then the heavy strings, a line each
 unfoldable pub answerText : Sheet → List ℕ

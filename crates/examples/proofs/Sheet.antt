@@ -27,7 +27,7 @@ use Rattle.query.specs.Query.{packs, query, parts, sparesZero, isAscending, isQ
 use Rattle.tree.specs.Search.{heading, searchRecord, searchList}
 use Rattle.tree.specs.Cut.{honestRecord, honestList, cut}
 use Rattle.keymaker.specs.Key.{keyBytes, keyOutcome}
-use Rattle.idpf.specs.Reports.{sumWhere, lentShare, serverSum}
+use Rattle.report_sums.specs.Reports.{sumWhere, lentShare, serverSum}
 use Rattle.idpf.specs.Share.{shareBytes, shareOutcome}
 use Rattle.exam_reading.specs.Characters.{binary, decimalIn}
 use Rattle.exam_reading.specs.Sheet.{Line, Sheet, strings, expanderNumber, text}

@@ -17,7 +17,7 @@ use Rattle.tree.specs.Cut.{honestRecord}
 use Rattle.tree.specs.Space.{recordSpace, listSpace}
 use Rattle.tree.proofs.Totals.{honest-fits}
 use Rattle.tree.proofs.Lengths.{honest-record-space, honest-list-space}
-use Rattle.idpf.specs.Share.{wrongLengths, payloadTooLarge, spareBitsSet}
+use Rattle.report_sums.specs.Checks.{wrongLengths, payloadTooLarge, spareBitsSet}
 use Rattle.search.specs.Search.{Lent, reports, recordBytes, listBytes, queriesFit, searchNumber}
 use Rattle.search.proofs.SameBytes.{equal-same}
 use Rattle.search.proofs.Outcome.{named-expander}

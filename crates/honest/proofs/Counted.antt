@@ -5,7 +5,6 @@ use mathlib.Core.List.{List}
 use Prim.Native.Nat.{ℕ, _+_, _%_, _≤_, _<_}
 use native.Mathlib.Omega.{arith}
 use lib.ListN.{length}
-use lib.Dec.{leb}
 use Rattle.bits.specs.Strings.{Bits, count}
 use Rattle.expander.specs.Expander.{choiceOf}
 use Rattle.expander.specs.declared.Expander.{Expander}
@@ -15,8 +14,8 @@ use Rattle.point.specs.Share.{bitOf}
 use Rattle.query.specs.Query.{packs}
 use Rattle.tree.specs.Search.{searchList}
 use Rattle.tree.specs.Cut.{honestRecord, honestList, honestFits}
-use Rattle.idpf.specs.Reports.{allCount, serverSum}
-use Rattle.search.specs.Search.{Lent, reports, total, recordBytes, listBytes, queriesFit}
+use Rattle.report_sums.specs.Reports.{allCount, serverSum}
+use Rattle.search.specs.Search.{Lent, reports, total, recordBytes, listBytes, queriesFit, reachesOf}
 use Rattle.search.proofs.Outcome.{Sound, accepted-clear}
 use Rattle.search.proofs.Rule.{total-sum, kept-held, record-held, list-held, fits-held}
 use Rattle.honest.specs.Honest.{Accepted, recordRead, listRead, Honest}
@@ -57,7 +56,7 @@ module _ (s : Lent) (xs : List Bits) (honest : Honest s xs) (e : Expander) (name
   total-count q some fits = total-sum s e named q ∙ sums-add q some fits
 
   -- So the kept prefixes of each length, the record, the list and whether every query is within the limit are those of the strings.
-  pub kept-count : (k : ℕ) → k ≤ s .n → searchList (leb (s .t)) (total s) k ≡ honestList k (s .t) xs
+  pub kept-count : (k : ℕ) → k ≤ s .n → searchList (reachesOf s) (total s) k ≡ honestList k (s .t) xs
   kept-count = kept-held s xs total-count (reports-number s xs honest)
 
   pub record-count : recordBytes s ≡ honestRecord (s .n) (s .t) xs
@@ -80,7 +79,7 @@ module _ (s : Lent) (xs : List Bits) (honest : Honest s xs) (ok : Accepted s) wh
   pub accepted-total : (q : Bits) → 0 < length q → length q ≤ s .n → total s q ≡ count xs q
   accepted-total = total-count s xs honest (sound .expander) (sound .named) (sound .some-bits) (sound .not-longer) few-strings
 
-  pub accepted-kept : (k : ℕ) → k ≤ s .n → searchList (leb (s .t)) (total s) k ≡ honestList k (s .t) xs
+  pub accepted-kept : (k : ℕ) → k ≤ s .n → searchList (reachesOf s) (total s) k ≡ honestList k (s .t) xs
   accepted-kept = kept-count s xs honest (sound .expander) (sound .named) (sound .some-bits) (sound .not-longer) few-strings
 
   pub accepted-record : recordRead s ≡ honestRecord (s .n) (s .t) xs

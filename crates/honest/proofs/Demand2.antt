@@ -33,7 +33,7 @@ use Rattle.tree.proofs.Kept as kept
 use Rattle.tree.proofs.Totals as strings
 use Rattle.tree.proofs.Demands.{honest-exact, honest-ascending, honest-once}
 use Rattle.keymaker.specs.Key.{keyOutcome}
-use Rattle.idpf.specs.Reports.{seedAt, allCount, sumWhere, lentShare, serverSum}
+use Rattle.report_sums.specs.Reports.{seedAt, allCount, sumWhere, lentShare, serverSum}
 use Rattle.idpf.specs.Share.{shareOutcome}
 use Rattle.combine.specs.Answer.{nextQuery}
 use Rattle.combine.specs.Combine.{keptPrefixes, combineOutcome, combineKind}

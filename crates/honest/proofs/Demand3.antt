@@ -5,8 +5,8 @@ use mathlib.Core.List.{List, _++_, append-assoc}
 use Prim.Native.Nat.{ℕ, _^_, _≤_, _<_}
 use native.Mathlib.Omega.{arith}
 use lib.ListN.{length}
-use lib.Dec.{leb}
 use Rattle.bits.specs.Strings.{Bits}
+use Rattle.kept.specs.Kept.{reaches}
 use Rattle.point.specs.PublicShare.{joined}
 use Rattle.query.specs.Query.{OfLength, packs, query, children}
 use Rattle.tree.specs.Search.{start, totals, level, heading, searchRecord, searchList}
@@ -40,10 +40,10 @@ unfolding recordBytes listBytes
 records-lists s u bits threshold ok ok′ same =
     let records : searchRecord (reachesOf s) (total s) (countedNumber s) (s .n) ≡ searchRecord (reachesOf s) (total u) (countedNumber u) (s .n) =
     sym (record-read s ok) ∙ same ∙ record-read u ok′
-    ∙ ap₂ (λ (n t : ℕ). searchRecord (leb t) (total u) (countedNumber u) n) (sym bits) (sym threshold) in
+    ∙ ap₂ (λ (n t : ℕ). searchRecord (reaches t) (total u) (countedNumber u) n) (sym bits) (sym threshold) in
     let lists : searchList (reachesOf s) (total s) (s .n) ≡ searchList (reachesOf u) (total u) (u .n) =
     records-tell-lists (reachesOf s) (total s) (total u) (small s) (small u) (countedNumber s) (countedNumber u) (s .n) records
-    ∙ ap₂ (λ (n t : ℕ). searchList (leb t) (total u) n) bits threshold in
+    ∙ ap₂ (λ (n t : ℕ). searchList (reaches t) (total u) n) bits threshold in
     list-read s ok ∙ ap packs lists ∙ sym (list-read u ok′)
   where
     small : (s : Lent) (q : Bits) → total s q < 256 ^ 8

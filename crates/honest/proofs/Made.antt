@@ -10,7 +10,7 @@ use Rattle.expander.specs.declared.Expander.{Expander}
 use Rattle.point.specs.Share.{bitOf}
 use Rattle.point.specs.Totals.{Report, Made, rootSeed, reportPublicShare}
 use Rattle.point.specs.Instance.{scheme}
-use Rattle.idpf.specs.Reports.{allCount, serverSum}
+use Rattle.report_sums.specs.Reports.{allCount, serverSum}
 
 -- A report is honest in a search of n bits: its string has n bits, its root seeds 16 bytes each, and its weight is one.
 pub record HonestReport (n : ℕ) (r : Report ℕ) : Type 0 where

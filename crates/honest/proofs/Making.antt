@@ -12,7 +12,7 @@ use Rattle.expander.specs.declared.Choice.the-variants.{Known}
 use Rattle.point.specs.PublicShare.{joined, publicShareLength}
 use Rattle.point.proofs.Joined.{joined-length, joined-at}
 use Rattle.query.specs.Query.{OfLength}
-use Rattle.idpf.specs.Reports.{publicShareAt}
+use Rattle.report_sums.specs.Reports.{publicShareAt}
 use Rattle.search.specs.Search.{Lent}
 use Rattle.honest.specs.Honest.{keyAt, Honest}
 use Rattle.honest.proofs.Keys.{key-passes}

@@ -20,7 +20,7 @@ use Rattle.places.proofs.Lists.{and-left, and-right}
 use Rattle.tree.proofs.Steps.{kept-nothing, record-nothing}
 use Rattle.combine.specs.Answer.{Answer, next, list, ended, answer, answerBytes, kind}
 use Rattle.combine.specs.Combine.{passesLimit, combineKind, kindWith}
-use Rattle.search.specs.Search.{Lent, total}
+use Rattle.search.specs.Search.{Lent, total, reachesOf}
 use Rattle.search.proofs.Outcome.{Sound}
 use Rattle.honest.specs.Loop.{inBytes, Played, round, over, follow, answerFor, spaceFor, combineIn, kindIn, played}
 use Rattle.honest.proofs.Round.{round-length, round-totals, round-answer, tooLarge, round-number, round-succeeds}
@@ -35,7 +35,7 @@ leave bytes ss = record { recorded = bytes; listed = ss }
 
 module _ (s : Lent) (sound : Sound s) where
   abbrev keeps : Bits → Bool
-  keeps = isKept (leb (s .t)) (total s)
+  keeps = isKept (reachesOf s) (total s)
 
   -- One round: some prefixes of k bits are kept, and their children are asked; the answer passes no limit.
   module _ (k : ℕ) (short : k < s .n) (ps : List Bits) (some-kept : 1 ≤ length ps) (few : length (children ps) ≤ limit)

@@ -22,8 +22,8 @@ use Rattle.point.specs.Instance.{scheme}
 use Rattle.point.proofs.Honest.{report-read}
 use Rattle.point.proofs.Instance.{scheme-lawful, p-fits}
 use Rattle.query.specs.Query.{OfLength}
-use Rattle.idpf.specs.Reports.{reportCount, seedAt, publicShareAt, allCount, sumWhere, lentShare, serverSum}
-use Rattle.idpf.proofs.LentPrefix.{sum-same}
+use Rattle.report_sums.specs.Reports.{reportCount, seedAt, publicShareAt, allCount, sumWhere, lentShare, serverSum}
+use Rattle.report_sums.proofs.LentPrefix.{sum-same}
 use Rattle.search.specs.Search.{Lent}
 use Rattle.honest.specs.Honest.{keyAt, Honest}
 use Rattle.honest.proofs.Made.{HonestReport, lentSeeds, lentShares}

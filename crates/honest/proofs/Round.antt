@@ -7,7 +7,7 @@ use Prim.Native.Nat.{ℕ, suc, _*_, _%_, _^_, _≤_, _<_}
 use native.Mathlib.Omega.{arith}
 use borrow.Author.Tests.{lt-ltb, eq-eqb}
 use lib.ListN.{length}
-use lib.Dec.{leb, ltb}
+use lib.Dec.{ltb}
 use Rattle.places.specs.Lists.{select}
 use Rattle.bits.specs.Strings.{Bits, Ascending}
 use Rattle.calls.specs.Causes.{numberDue}
@@ -25,11 +25,11 @@ use Rattle.tree.proofs.Asked.{next-query}
 use Rattle.query.proofs.Children.{children-longer}
 use Rattle.tree.proofs.Lengths.{totals-length}
 use Rattle.query.proofs.Queries.{query-passes, read-length, read-count, read-prefixes}
-use Rattle.idpf.specs.Reports.{allCount, serverSum}
+use Rattle.report_sums.specs.Reports.{allCount, serverSum}
 use Rattle.combine.specs.Answer.{numbers, added, answer, answerBytes}
 use Rattle.combine.specs.Combine.{wrongShares, allBelow, keptPrefixes, passesLimit, combineCauses, combineOutcome}
 use Rattle.combine.proofs.ShareTotals.{numbers-totals, added-map}
-use Rattle.search.specs.Search.{Lent, total, totalUnder}
+use Rattle.search.specs.Search.{Lent, total, totalUnder, reachesOf}
 use Rattle.search.proofs.Outcome.{Sound}
 use Rattle.honest.specs.Loop.{shareOf, shareFor, totalsFor, answerFor, spaceFor, combineIn}
 use Rattle.honest.proofs.SoundShares.{server-below, whole-share}
@@ -107,11 +107,11 @@ module _ (s : Lent) (sound : Sound s) where
         ∙ ap (λ (T : Bits → ℕ). map T (children ps)) sums-total
 
     -- What combining keeps is what the search rule keeps.
-    round-kept : keptPrefixes (s .t) q (shareFor s false q) (shareFor s true q) ≡ select (isKept (leb (s .t)) (total s)) (children ps)
-    round-kept = ap₂ (kept (leb (s .t))) read round-totals ∙ kept-select (leb (s .t)) (total s) (children ps)
+    round-kept : keptPrefixes (s .t) q (shareFor s false q) (shareFor s true q) ≡ select (isKept (reachesOf s) (total s)) (children ps)
+    round-kept = ap₂ (kept (reachesOf s)) read round-totals ∙ kept-select (reachesOf s) (total s) (children ps)
 
     -- So its answer is the one due to those.
-    pub round-answer : answerFor s q ≡ answer (s .n) (suc k) (select (isKept (leb (s .t)) (total s)) (children ps))
+    pub round-answer : answerFor s q ≡ answer (s .n) (suc k) (select (isKept (reachesOf s) (total s)) (children ps))
     round-answer = ap₂ (answer (s .n)) round-length round-kept
 
     right-shares : wrongShares (s .n) q (shareFor s false q) (shareFor s true q) ≡ false

@@ -32,8 +32,9 @@ use Rattle.query.specs.Query.{limit, prefixLength, prefixCount, packedPrefixes,
 use Rattle.tree.specs.Search.{totals}
 use Rattle.places.proofs.Lists.{and-left, and-right, all-map}
 use Rattle.query.proofs.Queries.{parts-length, prefix-at}
-use Rattle.idpf.specs.Reports.{reportCount, publicShareAt, allCount, serverSum}
-use Rattle.idpf.specs.Share.{wrongLengths, payloadTooLarge, spareBitsSet, shareCauses, shareBytes, shareOutcome}
+use Rattle.report_sums.specs.Reports.{reportCount, publicShareAt, allCount, serverSum}
+use Rattle.report_sums.specs.Checks.{wrongLengths, payloadTooLarge, spareBitsSet}
+use Rattle.idpf.specs.Share.{shareCauses, shareBytes, shareOutcome}
 use Rattle.honest.proofs.Made.{HonestReport, lentSeeds, lentShares, sumAt}
 use Rattle.honest.proofs.Pieces.{all-at, all-from}
 use Rattle.honest.proofs.Keys.{key-passes}

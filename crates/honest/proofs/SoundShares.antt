@@ -23,8 +23,9 @@ use Rattle.point.specs.PublicShare.{publicShareLength}
 use Rattle.point.proofs.Joined.{every-true}
 use Rattle.query.specs.Query.{isQuery, prefixCount, prefixesOf}
 use Rattle.tree.specs.Search.{totals}
-use Rattle.idpf.specs.Reports.{reportCount, allCount, sumWhere, serverSum}
-use Rattle.idpf.specs.Share.{wrongLengths, payloadTooLarge, spareBitsSet, shareCauses, shareBytes, shareOutcome}
+use Rattle.report_sums.specs.Reports.{reportCount, allCount, sumWhere, serverSum}
+use Rattle.report_sums.specs.Checks.{wrongLengths, payloadTooLarge, spareBitsSet}
+use Rattle.idpf.specs.Share.{shareCauses, shareBytes, shareOutcome}
 use Rattle.search.specs.Search.{Lent, totalUnder, total}
 use Rattle.search.proofs.Outcome.{Whole}
 

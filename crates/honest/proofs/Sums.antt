@@ -18,7 +18,7 @@ use Rattle.point.specs.Instance.{fieldScheme, scheme}
 use Rattle.point.proofs.Honest.{report-read}
 use Rattle.point.proofs.Instance.{scheme-lawful, p-fits, scheme-count}
 use Rattle.places.proofs.Lists.{all-map}
-use Rattle.idpf.specs.Reports.{reportCount, seedAt, publicShareAt, allCount, sumWhere, lentShare, serverSum}
+use Rattle.report_sums.specs.Reports.{reportCount, seedAt, publicShareAt, allCount, sumWhere, lentShare, serverSum}
 use Rattle.honest.proofs.Made.{HonestReport, lentSeeds, lentShares, sumAt}
 use Rattle.honest.proofs.Pieces.{all-at, pieces-length, piece-at}
 use Rattle.honest.proofs.Keys.{key-passes}

@@ -10,7 +10,7 @@ use Rattle.calls.specs.Outcome.{Outcome, accepted}
 use Rattle.point.specs.PublicShare.{publicShareLength}
 use Rattle.query.specs.Query.{OfLength}
 use Rattle.keymaker.specs.Key.{keyOutcome}
-use Rattle.idpf.specs.Reports.{seedAt, publicShareAt}
+use Rattle.report_sums.specs.Reports.{seedAt, publicShareAt}
 use Rattle.search.specs.Search.{Lent, searchNumber, recordLength, listLength, recordAfter, listAfter}
 
 -- each number is a byte, as in every lent slice

@@ -18,9 +18,10 @@ use Rattle.point.proofs.Joined.{every-false, every-fails}
 use Rattle.point.proofs.PublicShare.{spare-set}
 use Rattle.query.specs.Query.{isQuery, prefixCount}
 use Rattle.query.proofs.Queries.{query-exact}
-use Rattle.idpf.specs.Reports.{reportCount, publicShareAt}
-use Rattle.idpf.specs.Share.{WrongLengths, wrongLengths, PayloadTooLarge, payloadTooLarge, SpareBitsSet, spareBitsSet, shareCauses, shareOutcome}
-use Rattle.idpf.proofs.Lent.{share-bytes}
+use Rattle.report_sums.specs.Reports.{reportCount, publicShareAt}
+use Rattle.report_sums.specs.Checks.{WrongLengths, wrongLengths, PayloadTooLarge, payloadTooLarge, SpareBitsSet, spareBitsSet}
+use Rattle.idpf.specs.Share.{shareCauses, shareOutcome}
+use Rattle.report_sums.proofs.Lent.{share-bytes}
 use Rattle.idpf.proofs.ShareOutcome.{cause-1, outcome-number}
 
 -- ---- the causes

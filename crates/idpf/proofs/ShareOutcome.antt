@@ -26,8 +26,9 @@ use Rattle.point.proofs.Joined.{every-at}
 use Rattle.query.specs.Query.{prefixLength, prefixCount, packedPrefixes, prefixesOf, isQuery}
 use Rattle.query.proofs.Queries.{parts-length}
 use Rattle.tree.proofs.Lengths.{totals-length}
-use Rattle.idpf.specs.Reports.{reportCount, publicShareAt, allCount, serverSum}
-use Rattle.idpf.specs.Share.{wrongLengths, payloadTooLarge, spareBitsSet, shareCauses, shareBytes, shareOutcome}
+use Rattle.report_sums.specs.Reports.{reportCount, publicShareAt, allCount, serverSum}
+use Rattle.report_sums.specs.Checks.{wrongLengths, payloadTooLarge, spareBitsSet}
+use Rattle.idpf.specs.Share.{shareCauses, shareBytes, shareOutcome}
 
 -- ---- the first cause that applies
 

@@ -20,9 +20,9 @@ use Rattle.query.specs.Query.{prefixLength, prefixCount, prefixesOf, isQuery}
 use Rattle.tree.specs.Search.{totals}
 use Rattle.query.specs.Prefix.{packedPrefix}
 use Rattle.query.proofs.Ready.{prefix-size, prefix-unpack}
-use Rattle.idpf.specs.Reports.{allCount, serverSum}
+use Rattle.report_sums.specs.Reports.{allCount, serverSum}
 use Rattle.idpf.specs.Share.{shareBytes}
-use Rattle.idpf.proofs.LentPrefix.{serverSum-unpack}
+use Rattle.report_sums.proofs.LentPrefix.{serverSum-unpack}
 use Rattle.idpf.proofs.ShareOutcome.{prefixes-length, bytes-length}
 
 module _ (e : Expander) (n : ℕ) (b : Bool) (seeds shares : List ℕ) where

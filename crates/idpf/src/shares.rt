@@ -1,12 +1,12 @@
 // The call `share`: a server's share for a query.
-use crate::checks::all_payloads_below;
-use crate::checks::all_spare_bits_zero;
-use crate::reports::server_sum;
-use crate::reports::server_sums;
 use calls::Reply;
 use expander::Choice;
 use expander::Expander;
-use nodes::public_share_length;
+use report_sums::all_payloads_below;
+use report_sums::all_spare_bits_zero;
+use report_sums::server_sum;
+use report_sums::server_sums;
+use report_sums::wrong_lengths;
 ghost use mathlib.Core.Path.{_≡_};
 ghost use mathlib.Core.Bool.{true};
 ghost use mathlib.Core.List.{[]};
@@ -19,28 +19,8 @@ ghost use Rattle.calls.specs.Outcome.{judged, left};
 ghost use Rattle.point.specs.Share.{bitOf};
 ghost use Rattle.query.specs.Query.{isQuery, prefixCount};
 ghost use Rattle.query.specs.Prefix.{packedPrefix};
-ghost use Rattle.idpf.specs.Reports.{allCount, serverSum};
-ghost use Rattle.idpf.specs.Share.{wrongLengths, shareCauses, shareBytes, shareExit};
-
-// Whether the seeds or the public shares have the wrong length, or disagree in count.
-pub fn wrong_lengths(n: u16, seeds: &[u8], shares: &[u8]) -> bool
-    ensures { λ r. ⌜ r ≡ wrongLengths n (now (seeds .entry)) (now (shares .entry)) ⌝ }
-{
-    let size = public_share_length(n);
-    if seeds.len() % 16 != 0 {
-        return true;
-    }
-    if size == 0 {
-        if shares.len() != 0 {
-            return true;
-        }
-        return seeds.len() / 16 != 0;
-    }
-    if shares.len() % size != 0 {
-        return true;
-    }
-    seeds.len() / 16 != shares.len() / size
-}
+ghost use Rattle.report_sums.specs.Reports.{allCount, serverSum};
+ghost use Rattle.idpf.specs.Share.{shareCauses, shareBytes, shareExit};
 
 // The number of the first cause that applies, or 0.
 fn share_cause(n: u64, expander: u64, seeds: &[u8], shares: &[u8], query: &[u8], room: usize) -> u64

@@ -18,8 +18,8 @@ use Rattle.places.proofs.Places.{putAt-more, Grown, grown-start, grown-room, gr
 use Rattle.expander.specs.declared.Expander.{Expander}
 use Rattle.group.specs.Modular.{field}
 use Rattle.point.specs.Share.{bitOf}
-use Rattle.idpf.specs.Reports.{allCount, serverSum}
-use Rattle.idpf.proofs.LentPrefix.{serverSum-unpack}
+use Rattle.report_sums.specs.Reports.{allCount, serverSum}
+use Rattle.report_sums.proofs.LentPrefix.{serverSum-unpack}
 use Rattle.query.specs.Query.{parts}
 use Rattle.tree.specs.Search.{totals}
 use Rattle.tree.proofs.Lengths.{totals-length}

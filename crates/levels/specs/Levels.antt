@@ -13,7 +13,7 @@ use Rattle.kept.specs.Kept.{reachesBy}
 use Rattle.kept.specs.declared.Rule.{Rule}
 use Rattle.query.specs.Query.{packs}
 use Rattle.tree.specs.Search.{searchRecord, searchList, searchFits}
-use Rattle.idpf.specs.Reports.{allCount, serverSum}
+use Rattle.report_sums.specs.Reports.{allCount, serverSum}
 
 -- the total of the prefix q: the sum of all reports' shares from both servers, whatever bytes were lent for reports
 abbrev pub totalOf : Expander → ℕ → List ℕ → List ℕ → List ℕ → List ℕ → Bits → ℕ

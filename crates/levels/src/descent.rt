@@ -1,5 +1,5 @@
 // The levels of a search, from one query down.
-use crate::Found;
+use crate::LevelsReply;
 use crate::children::write_next;
 use crate::heavy::write_list;
 use crate::sums::write_totals;
@@ -43,7 +43,7 @@ fn finish(
     from: usize,
     place: usize,
     kept: usize,
-) -> Found
+) -> LevelsReply
     requires { ⌜ (from + count * packedLength k ≤ length (now area)) × (place + 8 * count ≤ length (now area)) × (kept ≤ count) ⌝ }
     requires { ⌜ Packed k (parts (packedLength k) count (drop from (now area))) ⌝ }
     requires { ⌜ kept * packedLength k ≡ length (packs (reachingAt (reachesBy rule) k (now area) count from place)) ⌝ }
@@ -52,14 +52,14 @@ fn finish(
 {
     let size = kept * packed_length(k);
     if list.len() < size {
-        return Found {
+        return LevelsReply {
             number: 11,
             record_length: 0,
             list_length: 0,
         };
     }
     write_list(rule, area, k, count, from, place, list);
-    Found {
+    LevelsReply {
         number: 0,
         record_length: (place + 8 * count) as u64,
         list_length: size as u64,
@@ -81,7 +81,7 @@ pub(crate) fn descend(
     k: u16,
     count: usize,
     from: usize,
-) -> Found
+) -> LevelsReply
     requires { ⌜ (k ≤ n) × (n ≤ 256) × (from + count * packedLength k + 8 * count ≤ length (now area)) × (count % 2 ≡ 0) ⌝ }
     requires { ⌜ Packed k (parts (packedLength k) count (drop from (now area))) ⌝ }
     ensures { λ r. ⌜ AnsweredBelow (reachesBy rule) (totalOf e n (now (seeds0 .entry)) (now (shares0 .entry)) (now (seeds1 .entry)) (now (shares1 .entry)))
@@ -109,14 +109,14 @@ pub(crate) fn descend(
     }
     let end = place + 8 * count;
     if kept == 0 {
-        return Found {
+        return LevelsReply {
             number: 0,
             record_length: end as u64,
             list_length: 0,
         };
     }
     if !next_fits(area.len(), end, bits, kept) {
-        return Found {
+        return LevelsReply {
             number: 11,
             record_length: 0,
             list_length: 0,

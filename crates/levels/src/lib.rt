@@ -14,7 +14,7 @@ ghost use Prim.Native.Nat.{_+_};
 ghost use Rattle.levels.specs.Levels.{endingWith, ending};
 
 // 0, or 11 where there is no room; and how many bytes were written of the record and of the list.
-pub struct Found {
+pub struct LevelsReply {
     pub number: u64,
     pub record_length: u64,
     pub list_length: u64,
@@ -31,7 +31,7 @@ pub fn run(
     shares1: &[u8],
     area: &mut [u8],
     list: &mut [u8],
-) -> Found
+) -> LevelsReply
     ensures { λ r. ⌜ endingWith (r .number) (r .«record_length») (r .«list_length») (now (area .exit)) (now (list .exit))
         ≡ ending rule e (last + 1) (now (seeds0 .entry)) (now (shares0 .entry)) (now (seeds1 .entry)) (now (shares1 .entry))
         (now (area .entry)) (now (list .entry)) ⌝ }

@@ -4,6 +4,7 @@ use expander::Expander;
 use kept::Rule;
 use kept::reaches;
 use numbers::write_le8;
+use report_sums::server_sums;
 ghost use mathlib.Core.Path.{_≡_};
 ghost use Prim.Native.Nat.{_+_, _*_, _%_, _≤_};
 ghost use lib.ListN.{length, take, drop};
@@ -39,8 +40,8 @@ fn totals_of(
     ensures { λ r. ⌜ r .second ≡ totalOf e n (now (seeds0 .entry)) (now (shares0 .entry)) (now (seeds1 .entry)) (now (shares1 .entry))
         (unpack k (now (second .entry))) ⌝ }
 {
-    let zero = idpf::server_sums(e, n, false, seeds0, shares0, &seeds0[..0], first, second, k);
-    let one = idpf::server_sums(e, n, true, seeds1, shares1, &seeds1[..0], first, second, k);
+    let zero = server_sums(e, n, false, seeds0, shares0, &seeds0[..0], first, second, k);
+    let one = server_sums(e, n, true, seeds1, shares1, &seeds1[..0], first, second, k);
     Totals {
         first: group::add(zero.first, one.first),
         second: group::add(zero.second, one.second),

@@ -1,5 +1,5 @@
 // All levels of a search, and the zeroing of an area.
-use crate::Found;
+use crate::LevelsReply;
 use crate::descent::descend;
 use expander::Expander;
 use kept::Rule;
@@ -33,13 +33,13 @@ pub(crate) fn all_levels(
     shares1: &[u8],
     area: &mut [u8],
     list: &mut [u8],
-) -> Found
+) -> LevelsReply
     requires { ⌜ (1 ≤ n) × (n ≤ 256) ⌝ }
     ensures { λ r. ⌜ AnsweredAll (reachesBy rule) (totalOf e n (now (seeds0 .entry)) (now (shares0 .entry)) (now (seeds1 .entry)) (now (shares1 .entry))) n
         (now (area .entry)) (now (list .entry)) (now (area .exit)) (now (list .exit)) (r .number) (r .«record_length») (r .«list_length») ⌝ }
 {
     if area.len() < 24 {
-        return Found {
+        return LevelsReply {
             number: 11,
             record_length: 0,
             list_length: 0,

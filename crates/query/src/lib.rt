@@ -11,7 +11,7 @@ ghost use Rattle.query.specs.Prefix.{packedPrefix};
 mod writing;
 
 pub use writing::write_both_children;
-pub use writing::write_heading;
+pub use writing::write_fields;
 pub use writing::write_prefix;
 
 // The prefix length of a query.

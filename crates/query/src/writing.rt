@@ -1,4 +1,4 @@
-// Queries as they are written: the heading, kept prefixes, and their children. What does not fit is not written at all.
+// Queries as they are written: the two fields, kept prefixes, and their children. What does not fit is not written at all.
 use bits::write_child;
 use places::copy;
 use places::within;
@@ -14,7 +14,7 @@ ghost use Rattle.query.specs.Prefix.{part};
 ghost use Rattle.query.specs.Written.{fitting, bothChildren};
 
 // Writes the 6 bytes that begin a query for `count` prefixes of k + 1 bits, from place `at` on.
-pub fn write_heading(out: &mut [u8], at: usize, k: u64, count: u64)
+pub fn write_fields(out: &mut [u8], at: usize, k: u64, count: u64)
     ensures { λ _. ⌜ now (out .exit) ≡ putAt (now (out .entry)) at (big 2 k ++ big 4 count) ⌝ }
 {
     if !within(out.len(), at, 6) {
@@ -24,6 +24,7 @@ pub fn write_heading(out: &mut [u8], at: usize, k: u64, count: u64)
     numbers::write_be4(out, at + 2, count);
 }
 
+// Writes the packed prefix in the w bytes of `source` from place `from` on into the places of `out` from `at` on, if it is kept; and the place after
 // what is written.
 pub fn write_prefix(
     kept: bool,

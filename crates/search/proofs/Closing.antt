@@ -6,7 +6,6 @@ use mathlib.Core.Bool.{Bool, true, false, true≢false, cond}
 use mathlib.Core.List.{List, [], _∷_}
 use mathlib.Core.Logic.{_≢_}
 use borrow.Author.Tests.{not-false}
-use lib.Dec.{leb}
 use Rattle.bits.specs.Strings.{Bits}
 use Rattle.calls.specs.Bounds.{mostBits}
 use Rattle.calls.specs.Causes.{Cause, numberDue}
@@ -19,7 +18,7 @@ use Rattle.expander.specs.declared.Choice.the-variants.{Known, Unknown}
 use Rattle.expander.proofs.Chosen.{unknown}
 use Rattle.levels.specs.Levels.{totalOf, endingWith, noRoom, endingOf, endingBy, ending}
 use Rattle.levels.proofs.Closing.{same-parts}
-use Rattle.search.specs.Search.{Lent, total, totalUnder, reports, recordBytes, listBytes, queriesFit, lentCauses, spaceCauses, searchNumber, recordLength, listLength, recordAfter, listAfter, searchEnding}
+use Rattle.search.specs.Search.{Lent, total, totalUnder, reports, recordBytes, listBytes, queriesFit, lentCauses, spaceCauses, searchNumber, recordLength, listLength, recordAfter, listAfter, searchEnding, reachesOf}
 use Rattle.search.proofs.Outcome.{Bearing}
 use Rattle.search.proofs.Areas.{record-length-refused, list-length-refused, list-refused, record-refused, record-zeroed, record-length, list-length}
 
@@ -98,9 +97,9 @@ module _ (s : Lent) where
       same-total = ap (λ (c : Choice). totalUnder c s) known
 
       same-ending : endingOf (recordBytes s) (listBytes s) (queriesFit s) (s .recordArea) (s .listArea)
-          ≡ endingBy (leb (s .t)) T (reports s) (s .n) (s .recordArea) (s .listArea)
+          ≡ endingBy (reachesOf s) T (reports s) (s .n) (s .recordArea) (s .listArea)
       unfolding recordBytes listBytes queriesFit
-      same-ending = ap (λ (f : Bits → ℕ). endingBy (leb (s .t)) f (reports s) (s .n) (s .recordArea) (s .listArea)) same-total
+      same-ending = ap (λ (f : Bits → ℕ). endingBy (reachesOf s) f (reports s) (s .n) (s .recordArea) (s .listArea)) same-total
 
       pub settled : (last number recordLength′ listLength′ : ℕ) (recordArea′ listArea′ : List ℕ) → last + 1 ≡ s .n
           → endingWith number recordLength′ listLength′ recordArea′ listArea′

@@ -22,8 +22,8 @@ use Rattle.expander.proofs.Chosen.{unknown}
 use Rattle.group.specs.Modular.{p}
 use Rattle.point.specs.PublicShare.{publicShareLength, payloadsBelow, spareBitsZero}
 use Rattle.point.proofs.Joined.{every-at}
-use Rattle.idpf.specs.Reports.{reportCount, publicShareAt}
-use Rattle.idpf.specs.Share.{wrongLengths, payloadTooLarge, spareBitsSet}
+use Rattle.report_sums.specs.Reports.{reportCount, publicShareAt}
+use Rattle.report_sums.specs.Checks.{wrongLengths, payloadTooLarge, spareBitsSet}
 use Rattle.search.specs.Search.{Lent, reports, recordBytes, listBytes, queriesFit, lentCauses, spaceCauses, searchNumber}
 use Rattle.search.proofs.SameBytes.{same-equal}
 

@@ -6,7 +6,6 @@ use mathlib.Core.Path.{_≡_, ap, _∙_}
 use mathlib.Core.Bool.{true, false}
 use mathlib.Core.List.{List}
 use lib.ListN.{length}
-use lib.Dec.{leb}
 use Rattle.bits.specs.Strings.{Bits, count}
 use Rattle.expander.specs.Expander.{choiceOf}
 use Rattle.expander.specs.declared.Expander.{Expander}
@@ -19,8 +18,8 @@ use Rattle.tree.specs.Search.{searchRecord, searchList}
 use Rattle.tree.specs.Cut.{honestRecord, honestList, honestFits}
 use Rattle.tree.proofs.Limit.{fits-within}
 use Rattle.tree.proofs.Agree.{list-agrees, fits-agree, record-agrees}
-use Rattle.idpf.specs.Reports.{allCount, serverSum}
-use Rattle.search.specs.Search.{Lent, reports, totalUnder, total, recordBytes, listBytes, queriesFit}
+use Rattle.report_sums.specs.Reports.{allCount, serverSum}
+use Rattle.search.specs.Search.{Lent, reports, totalUnder, total, recordBytes, listBytes, queriesFit, reachesOf}
 
 -- The total of a prefix is the sum of what server 0 and server 1 add up over their own seeds and public shares.
 pub total-sum : (s : Lent) (e : Expander) → choiceOf (s .expander) ≡ Known e → (q : Bits)
@@ -31,21 +30,21 @@ unfolding totalUnder
 total-sum s e named q = ap (λ (c : Choice). totalUnder c s q) named
 
 -- Where every query fits, the children of the kept prefixes of each length below n are within the limit.
-pub queries-within : (s : Lent) → queriesFit s ≡ true → (k : ℕ) → k < s .n → length (children (searchList (leb (s .t)) (total s) k)) ≤ limit
+pub queries-within : (s : Lent) → queriesFit s ≡ true → (k : ℕ) → k < s .n → length (children (searchList (reachesOf s) (total s) k)) ≤ limit
 unfolding queriesFit
-queries-within s fits = fits-within (leb (s .t)) (total s) (s .n) fits
+queries-within s fits = fits-within (reachesOf s) (total s) (s .n) fits
 
 -- Where the total of each prefix of 1 to n bits is the number of strings that have it, and there are as many reports as strings:
 module _ (s : Lent) (xs : List Bits) (held : (q : Bits) → 0 < length q → length q ≤ s .n → total s q ≡ count xs q) (as-many : reports s ≡ length xs) where
   -- the kept prefixes of each length are those of the strings
-  pub kept-held : (k : ℕ) → k ≤ s .n → searchList (leb (s .t)) (total s) k ≡ honestList k (s .t) xs
-  kept-held k l = list-agrees (leb (s .t)) (total s) (count xs) (s .n) held k l
+  pub kept-held : (k : ℕ) → k ≤ s .n → searchList (reachesOf s) (total s) k ≡ honestList k (s .t) xs
+  kept-held k l = list-agrees (reachesOf s) (total s) (count xs) (s .n) held k l
 
   pub record-held : recordBytes s ≡ honestRecord (s .n) (s .t) xs
   unfolding recordBytes
   record-held =
-      record-agrees (leb (s .t)) (total s) (count xs) (s .n) held (reports s)
-      ∙ ap (λ (C : ℕ). searchRecord (leb (s .t)) (count xs) C (s .n)) as-many
+      record-agrees (reachesOf s) (total s) (count xs) (s .n) held (reports s)
+      ∙ ap (λ (C : ℕ). searchRecord (reachesOf s) (count xs) C (s .n)) as-many
 
   pub list-held : listBytes s ≡ packs (honestList (s .n) (s .t) xs)
   unfolding listBytes
@@ -53,4 +52,4 @@ module _ (s : Lent) (xs : List Bits) (held : (q : Bits) → 0 < length q → len
 
   pub fits-held : queriesFit s ≡ honestFits (s .n) (s .t) xs
   unfolding queriesFit
-  fits-held = fits-agree (leb (s .t)) (total s) (count xs) (s .n) held
+  fits-held = fits-agree (reachesOf s) (total s) (count xs) (s .n) held

@@ -10,7 +10,7 @@ use Rattle.calls.specs.Causes.{Due}
 use Rattle.calls.proofs.Decisions.{passed, failed, failed-test, differ, differ-test, either, either-test}
 use Rattle.calls.proofs.Judged.{number-due, none, next, length-decided, threshold-decided, expander-decided, reports-decided}
 use Rattle.tree.proofs.Limit.{fits-not}
-use Rattle.idpf.specs.Share.{WrongLengths, wrongLengths, payloadTooLarge, spareBitsSet}
+use Rattle.report_sums.specs.Checks.{WrongLengths, wrongLengths, payloadTooLarge, spareBitsSet}
 use Rattle.idpf.proofs.ShareDue.{wrong, wrong-test, too-large, too-large-test, bits-set, bits-set-test}
 use Rattle.search.specs.Search.{Lent, reports, recordBytes, listBytes, queriesFit, sameBytes, QueryTooLong, searchCauses, searchNumber}
 use Rattle.search.proofs.SameBytes.{same-equal, equal-same}

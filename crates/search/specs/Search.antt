@@ -4,7 +4,7 @@ use mathlib.Core.Bool.{Bool, true, false, cond, not, _&&_, _||_}
 use mathlib.Core.List.{List, [], _∷_, _++_}
 use mathlib.Core.Logic.{_≢_, _⊎_}
 use lib.ListN.{length, replicate}
-use lib.Dec.{leb, ltb, eqb}
+use lib.Dec.{ltb, eqb}
 use Rattle.bits.specs.Strings.{Bits}
 use Rattle.places.specs.Places.{overlay}
 use Rattle.calls.specs.Bounds.{lengthCause, thresholdCause, expanderCause, reportsCause}
@@ -12,11 +12,12 @@ use Rattle.calls.specs.Causes.{Cause, cause, numberDue}
 use Rattle.expander.specs.Expander.{choiceOf}
 use Rattle.expander.specs.declared.Choice.{Choice}
 use Rattle.expander.specs.declared.Choice.the-variants.{Known, Unknown}
+use Rattle.kept.specs.Kept.{reaches}
 use Rattle.query.specs.Query.{packs, limit, children}
 use Rattle.tree.specs.Search.{searchRecord, searchList, searchFits}
 use Rattle.levels.specs.Levels.{totalOf, Ending, endingWith}
 use Rattle.search.specs.declared.Found.{Found}
-use Rattle.idpf.specs.Share.{WrongLengths, wrongLengths, PayloadTooLarge, payloadTooLarge, SpareBitsSet, spareBitsSet}
+use Rattle.report_sums.specs.Checks.{WrongLengths, wrongLengths, PayloadTooLarge, payloadTooLarge, SpareBitsSet, spareBitsSet}
 
 -- What a search is lent: the string length, the threshold and the expander's number; each server's root seeds and public shares; the record area
 -- and the list area.
@@ -59,7 +60,7 @@ thresholdOf s = s .t
 
 -- whether a total, as a whole number, is at least t
 abbrev pub reachesOf : Lent → ℕ → Bool
-reachesOf s = leb (thresholdOf s)
+reachesOf s = reaches (thresholdOf s)
 
 -- ---- the search
 
@@ -101,16 +102,16 @@ abbrev pub settingsCauses : ℕ → ℕ → ℕ → List Cause
 settingsCauses n t expander = lengthCause n ∷ thresholdCause t ∷ expanderCause expander ∷ []
 
 -- of how much is lent
-abbrev pub lengthCauses : ℕ → List ℕ → List ℕ → List ℕ → List ℕ → List Cause
-lengthCauses n seeds0 shares0 seeds1 shares1 =
+abbrev pub amountCauses : ℕ → List ℕ → List ℕ → List ℕ → List ℕ → List Cause
+amountCauses n seeds0 shares0 seeds1 shares1 =
     cause 4 (WrongLengths n seeds0 shares0 ⊎ WrongLengths n seeds1 shares1 ⊎ (length seeds0 ≢ length seeds1))
     (wrongLengths n seeds0 shares0 || (wrongLengths n seeds1 shares1 || not (eqb (length seeds0) (length seeds1))))
     ∷ reportsCause (length seeds0 / 16)
     ∷ []
 
 -- of the reports
-abbrev pub reportCauses : ℕ → List ℕ → List ℕ → List ℕ → List ℕ → List Cause
-reportCauses n seeds0 shares0 seeds1 shares1 =
+abbrev pub publicShareCauses : ℕ → List ℕ → List ℕ → List ℕ → List ℕ → List Cause
+publicShareCauses n seeds0 shares0 seeds1 shares1 =
     cause 6 (PayloadTooLarge n seeds0 shares0 ⊎ PayloadTooLarge n seeds1 shares1) (payloadTooLarge n seeds0 shares0 || payloadTooLarge n seeds1 shares1)
     ∷ cause 7 (SpareBitsSet n seeds0 shares0 ⊎ SpareBitsSet n seeds1 shares1) (spareBitsSet n seeds0 shares0 || spareBitsSet n seeds1 shares1)
     ∷ cause 8 (shares0 ≢ shares1) (not (sameBytes shares0 shares1))
@@ -127,7 +128,7 @@ spaceCauses s =
 abbrev pub lentCauses : Lent → List Cause
 lentCauses s =
     settingsCauses (s .n) (s .t) (s .expander)
-    ++ (lengthCauses (s .n) (s .seeds0) (s .shares0) (s .seeds1) (s .shares1) ++ reportCauses (s .n) (s .seeds0) (s .shares0) (s .seeds1) (s .shares1))
+    ++ (amountCauses (s .n) (s .seeds0) (s .shares0) (s .seeds1) (s .shares1) ++ publicShareCauses (s .n) (s .seeds0) (s .shares0) (s .seeds1) (s .shares1))
 
 -- all, in the order in which they are judged
 abbrev pub searchCauses : Lent → List Cause

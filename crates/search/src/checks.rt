@@ -5,8 +5,8 @@ ghost use mathlib.Core.List.{[]};
 ghost use lib.ListN.{length};
 ghost use lib.Dec.{eqb};
 ghost use Rattle.calls.specs.Causes.{numberDue};
-ghost use Rattle.idpf.specs.Share.{wrongLengths, payloadTooLarge, spareBitsSet};
-ghost use Rattle.search.specs.Search.{lent, sameBytes, settingsCauses, lengthCauses, reportCauses, lentCauses};
+ghost use Rattle.report_sums.specs.Checks.{wrongLengths, payloadTooLarge, spareBitsSet};
+ghost use Rattle.search.specs.Search.{lent, sameBytes, settingsCauses, amountCauses, publicShareCauses, lentCauses};
 
 // Whether two slices hold the same bytes.
 fn same_bytes(a: &[u8], b: &[u8]) -> bool
@@ -30,10 +30,10 @@ fn lengths_wrong(n: u16, seeds0: &[u8], shares0: &[u8], seeds1: &[u8], shares1: 
     ensures { λ r. ⌜ r ≡ (wrongLengths n (now (seeds0 .entry)) (now (shares0 .entry)) || (wrongLengths n (now (seeds1 .entry)) (now (shares1 .entry)) || not
         (eqb (length (now (seeds0 .entry))) (length (now (seeds1 .entry)))))) ⌝ }
 {
-    if idpf::wrong_lengths(n, seeds0, shares0) {
+    if report_sums::wrong_lengths(n, seeds0, shares0) {
         return true;
     }
-    if idpf::wrong_lengths(n, seeds1, shares1) {
+    if report_sums::wrong_lengths(n, seeds1, shares1) {
         return true;
     }
     seeds0.len() != seeds1.len()
@@ -43,20 +43,20 @@ fn lengths_wrong(n: u16, seeds0: &[u8], shares0: &[u8], seeds1: &[u8], shares1: 
 fn payload_too_large(n: u16, seeds0: &[u8], shares0: &[u8], seeds1: &[u8], shares1: &[u8]) -> bool
     ensures { λ r. ⌜ r ≡ (payloadTooLarge n (now (seeds0 .entry)) (now (shares0 .entry)) || payloadTooLarge n (now (seeds1 .entry)) (now (shares1 .entry))) ⌝ }
 {
-    if !idpf::all_payloads_below(n, seeds0, shares0) {
+    if !report_sums::all_payloads_below(n, seeds0, shares0) {
         return true;
     }
-    !idpf::all_payloads_below(n, seeds1, shares1)
+    !report_sums::all_payloads_below(n, seeds1, shares1)
 }
 
 // Whether spare bits of a public share lent for either server are set.
 fn spare_bits_set(n: u16, seeds0: &[u8], shares0: &[u8], seeds1: &[u8], shares1: &[u8]) -> bool
     ensures { λ r. ⌜ r ≡ (spareBitsSet n (now (seeds0 .entry)) (now (shares0 .entry)) || spareBitsSet n (now (seeds1 .entry)) (now (shares1 .entry))) ⌝ }
 {
-    if !idpf::all_spare_bits_zero(n, seeds0, shares0) {
+    if !report_sums::all_spare_bits_zero(n, seeds0, shares0) {
         return true;
     }
-    !idpf::all_spare_bits_zero(n, seeds1, shares1)
+    !report_sums::all_spare_bits_zero(n, seeds1, shares1)
 }
 
 // The number of the first of these causes of the settings that applies, or 0.
@@ -76,8 +76,8 @@ fn settings_cause(n: u64, t: u64, expander: u64) -> u64
 }
 
 // The same of how much is lent.
-fn length_cause(n: u16, seeds0: &[u8], shares0: &[u8], seeds1: &[u8], shares1: &[u8]) -> u64
-    ensures { λ r. ⌜ r ≡ numberDue (lengthCauses n (now (seeds0 .entry)) (now (shares0 .entry)) (now (seeds1 .entry)) (now (shares1 .entry))) ⌝ }
+fn amount_cause(n: u16, seeds0: &[u8], shares0: &[u8], seeds1: &[u8], shares1: &[u8]) -> u64
+    ensures { λ r. ⌜ r ≡ numberDue (amountCauses n (now (seeds0 .entry)) (now (shares0 .entry)) (now (seeds1 .entry)) (now (shares1 .entry))) ⌝ }
 {
     if lengths_wrong(n, seeds0, shares0, seeds1, shares1) {
         return 4;
@@ -89,8 +89,8 @@ fn length_cause(n: u16, seeds0: &[u8], shares0: &[u8], seeds1: &[u8], shares1: &
 }
 
 // The same of the reports.
-fn report_cause(n: u16, seeds0: &[u8], shares0: &[u8], seeds1: &[u8], shares1: &[u8]) -> u64
-    ensures { λ r. ⌜ r ≡ numberDue (reportCauses n (now (seeds0 .entry)) (now (shares0 .entry)) (now (seeds1 .entry)) (now (shares1 .entry))) ⌝ }
+fn public_share_cause(n: u16, seeds0: &[u8], shares0: &[u8], seeds1: &[u8], shares1: &[u8]) -> u64
+    ensures { λ r. ⌜ r ≡ numberDue (publicShareCauses n (now (seeds0 .entry)) (now (shares0 .entry)) (now (seeds1 .entry)) (now (shares1 .entry))) ⌝ }
 {
     if payload_too_large(n, seeds0, shares0, seeds1, shares1) {
         return 6;
@@ -122,9 +122,9 @@ pub(crate) fn first_cause(
         return settings;
     }
     let levels = n as u16;
-    let lengths = length_cause(levels, seeds0, shares0, seeds1, shares1);
+    let lengths = amount_cause(levels, seeds0, shares0, seeds1, shares1);
     if lengths != 0 {
         return lengths;
     }
-    report_cause(levels, seeds0, shares0, seeds1, shares1)
+    public_share_cause(levels, seeds0, shares0, seeds1, shares1)
 }

@@ -7,9 +7,9 @@ use mathlib.Core.Bool.{Bool}
 use mathlib.Core.List.{List, _++_, map}
 use lib.ListN.{length, drop, length-map}
 use lib.Seq.{drop-at}
-use lib.Dec.{leb}
 use Rattle.places.specs.Lists.{_∈_}
 use Rattle.bits.specs.Strings.{Bits, _▹_, isPrefix, count, Ascending}
+use Rattle.kept.specs.Kept.{reaches}
 use Rattle.query.specs.Query.{OfLength}
 use Rattle.tree.specs.Search.{start, heading, headingLength, searchRecord, searchList}
 use Rattle.tree.specs.Cut.{Heavy, honestRecord, honestList, cut, cuts, times, Rearranged}
@@ -27,13 +27,13 @@ use Rattle.tree.proofs.Lengths.{heading-length}
 pub honest-exact : (n t : ℕ) (xs : List Bits) → 1 ≤ n → (s : Bits) → (s ∈ honestList n t xs) ↔ ((length s ≡ n) × Heavy t xs s)
 honest-exact zero t xs h s = absurd (omega arith)
 honest-exact (suc n) t xs h s = (
-  λ i. let v = all-mem (Survives (heavy t xs) (suc n)) (list-survives (leb t) (count xs) (suc n)) i in (v .0, survives-heavy n t xs s v),
-  λ c. list-exact (leb t) (count xs) (suc n) s .1 (c .0, open-prefixes (heavy t xs) s .0 (heavy-open t xs s (c .1))),
+  λ i. let v = all-mem (Survives (heavy t xs) (suc n)) (list-survives (reaches t) (count xs) (suc n)) i in (v .0, survives-heavy n t xs s v),
+  λ c. list-exact (reaches t) (count xs) (suc n) s .1 (c .0, open-prefixes (heavy t xs) s .0 (heavy-open t xs s (c .1))),
 )
 
 -- It is strictly ascending.
 pub honest-ascending : (n t : ℕ) (xs : List Bits) → Ascending (honestList n t xs)
-honest-ascending n t xs = list-ascending (leb t) (count xs) n
+honest-ascending n t xs = list-ascending (reaches t) (count xs) n
 
 -- So no string stands in it twice.
 pub honest-once : (n t : ℕ) (xs : List Bits) (s : Bits) → times s (honestList n t xs) ≤ 1
@@ -53,10 +53,10 @@ unfolding searchRecord
 records-tell-cuts n t xs ys h ax ay cx cy = (
   λ e. rw (cuts-trim t xs, cuts-trim t ys) (λ s.
       times-trim n (heavy t xs) s xs ax
-      ∙ agree-cut (leb t) n (count xs) (count ys) s (λ z. absurd (omega arith))
-      (record→agree (leb t) (count xs) (count ys) (small xs cx) (small ys cy) n (heading-apart (length xs) (length ys) _ _ e))
+      ∙ agree-cut (reaches t) n (count xs) (count ys) s (λ z. absurd (omega arith))
+      (record→agree (reaches t) (count xs) (count ys) (small xs cx) (small ys cy) n (heading-apart (length xs) (length ys) _ _ e))
       ∙ sym (times-trim n (heavy t ys) s ys ay)),
-  λ r. ap₂ (λ C s. heading C ++ s) (as-many r) (agree→record (leb t) (count xs) (count ys) (same (rw (cuts-trim t xs, cuts-trim t ys) at r)) n),
+  λ r. ap₂ (λ C s. heading C ++ s) (as-many r) (agree→record (reaches t) (count xs) (count ys) (same (rw (cuts-trim t xs, cuts-trim t ys) at r)) n),
 )
   where
     small : (zs : List Bits) → length zs ≤ 65535 → (q : Bits) → count zs q < 256 ^ 8

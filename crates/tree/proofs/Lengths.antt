@@ -6,12 +6,12 @@ use mathlib.Core.Path.{_≡_, refl, ap₂, _∙_}
 use mathlib.Core.Bool.{Bool}
 use mathlib.Core.List.{List, [], _∷_}
 use lib.ListN.{length, length-append}
-use lib.Dec.{leb}
 use Rattle.places.specs.Lists.{select}
 use Rattle.bits.specs.Strings.{Bits, count}
 use Rattle.numbers.specs.Numbers.{little}
 use Rattle.bits.specs.Packing.{packedLength}
 use Rattle.numbers.proofs.Endian.{little-length}
+use Rattle.kept.specs.Kept.{reaches}
 use Rattle.query.specs.Query.{OfLength, packs, query, children}
 use Rattle.tree.specs.Search.{start, totals, level, recordFrom, heading, headingLength, isKept, searchRecord, searchList}
 use Rattle.tree.specs.Cut.{honestRecord, honestList}
@@ -99,14 +99,14 @@ module _ (n t : ℕ) (xs : List Bits) (all : OfLength n xs) (pos : 1 ≤ t) wher
 
   -- The record of an honest search fits its space.
   pub honest-record-space : length (honestRecord n t xs) ≤ recordSpace n t (length xs)
-  honest-record-space = omega (arith, record-length (leb t) (count xs) (length xs) n, record-space n (omega arith))
+  honest-record-space = omega (arith, record-length (reaches t) (count xs) (length xs) n, record-space n (omega arith))
 
 -- The list of an honest search fits its space.
 pub honest-list-space : (n t : ℕ) (xs : List Bits) → OfLength n xs → 1 ≤ t → 1 ≤ n → length (packs (honestList n t xs)) ≤ listSpace n t (length xs)
 unfolding listSpace
 honest-list-space zero t xs all pos h = absurd (omega arith)
 honest-list-space (suc n) t xs all pos h =
-    rw (list-bytes (leb t) (count xs) (suc n)) (mul-le-mul-right (packedLength (suc n)) (kept-length (suc n) t xs all pos n (omega arith)))
+    rw (list-bytes (reaches t) (count xs) (suc n)) (mul-le-mul-right (packedLength (suc n)) (kept-length (suc n) t xs all pos n (omega arith)))
 
 -- ---- space grows
 

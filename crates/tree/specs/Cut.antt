@@ -4,9 +4,10 @@ use mathlib.Core.Path.{_≡_}
 use mathlib.Core.Bool.{Bool, true, false, cond, _&&_, Bool·beq}
 use mathlib.Core.List.{List, [], _∷_, map}
 use lib.ListN.{length}
-use lib.Dec.{leb, ltb}
+use lib.Dec.{ltb}
 use Rattle.places.specs.Lists.{number}
 use Rattle.bits.specs.Strings.{Bits, count}
+use Rattle.kept.specs.Kept.{reaches}
 use Rattle.tree.specs.Search.{searchRecord, searchList, searchFits}
 
 -- ---- honest searches: each of the strings xs is held by one installation, and the total of a prefix is the number of strings that have it;
@@ -18,15 +19,15 @@ Heavy t xs s = t ≤ count xs s
 
 -- the record
 abbrev pub honestRecord : ℕ → ℕ → List Bits → List ℕ
-honestRecord n t xs = searchRecord (leb t) (count xs) (length xs) n
+honestRecord n t xs = searchRecord (reaches t) (count xs) (length xs) n
 
 -- the list
 abbrev pub honestList : ℕ → ℕ → List Bits → List Bits
-honestList n t xs = searchList (leb t) (count xs) n
+honestList n t xs = searchList (reaches t) (count xs) n
 
 -- whether no query passes the limit
 abbrev pub honestFits : ℕ → ℕ → List Bits → Bool
-honestFits n t xs = searchFits (leb t) (count xs) n
+honestFits n t xs = searchFits (reaches t) (count xs) n
 
 -- ---- cut strings
 

@@ -164,11 +164,11 @@ returns-6 c =
     (k .count-kept .result) (k .count-kept .ensures .0) (k .before .prefix-length .result) (k .before .prefix-length .ensures .0)
     (w .before .before .before .if2 .left) (w .before .before .if4 .left) (w .packed-length2 .result) (child w) (c .if6 .taken))
 
-mul-write-heading : tie.Need-mul-write-heading
-mul-write-heading c = search needs
+mul-write-fields : tie.Need-mul-write-fields
+mul-write-fields c = search needs
 
-write-heading-requires : tie.Need-write-heading-requires
-write-heading-requires c κs = search needs
+write-fields-requires : tie.Need-write-fields-requires
+write-fields-requires c κs = search needs
 
 write-kept-requires-2 : tie.Need-write-kept-requires-2
 write-kept-requires-2 c κs =
@@ -178,7 +178,7 @@ write-kept-requires-2 c κs =
     let e = k .before .before in
     let a = start e .args in
     let r = all-well e in
-    let h = c .before .before .before .write-heading in
+    let h = c .before .before .before .write-fields in
     let size =
     children-bytes (a .n) (a .t) (a .query .now) (a .share0 .now) (a .share1 .now) (a .out .now) (byte e) (all-well e)
     (k .count-kept .result) (k .count-kept .ensures .0) (k .before .prefix-length .result) (k .before .prefix-length .ensures .0)
@@ -202,7 +202,7 @@ returns-7 c =
     (next-told (a .n) (a .t) (a .query .now) (a .share0 .now) (a .share1 .now) (a .out .now) (byte e) (all-well e)
     (k .count-kept .result) (k .count-kept .ensures .0) (k .before .prefix-length .result) (k .before .prefix-length .ensures .0)
     (w .before .before .before .if2 .left) (w .before .before .if4 .left) (w .packed-length2 .result) (child w) (w .before .if5 .left) (f .if6 .left) _ _
-    (h .write-heading .ensures) (c .before .before .write-kept2 .ensures))
+    (h .write-fields .ensures) (c .before .before .write-kept2 .ensures))
 
 pub combine-spec : {M : Type 1} → statement M
 combine-spec =
@@ -226,8 +226,8 @@ combine-spec =
     mul-next-size-2
     add-next-size
     returns-6
-    mul-write-heading
-    write-heading-requires
+    mul-write-fields
+    write-fields-requires
     write-kept-requires-2
     same-length-2
     returns-7)

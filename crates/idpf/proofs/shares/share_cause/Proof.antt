@@ -11,7 +11,7 @@ use Rattle.calls.specs.Bounds.{mostBits, mostReports, outside}
 use Rattle.calls.proofs.Decisions as calls
 use Rattle.expander.specs.Expander.{isExpander}
 use Rattle.query.specs.Query.{isQuery}
-use Rattle.idpf.specs.Share.{wrongLengths, payloadTooLarge, spareBitsSet}
+use Rattle.report_sums.specs.Checks.{wrongLengths, payloadTooLarge, spareBitsSet}
 use Rattle.idpf.proofs.ShareOutcome.{cause-1, cause-3, cause-4, cause-5, cause-6, cause-7, cause-9, cause-11, no-cause}
 use Rattle.idpf.proofs.shares.share_cause.Statement.{statement}
 use Rattle.idpf.proofs.shares.share_cause.Tie as tie

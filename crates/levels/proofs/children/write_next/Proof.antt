@@ -6,11 +6,11 @@ use Rattle.levels.proofs.Asking.{children-room, next-put}
 use Rattle.levels.proofs.children.write_next.Statement.{statement}
 use Rattle.levels.proofs.children.write_next.Tie as tie
 
-mul-write-heading : tie.Need-mul-write-heading
-mul-write-heading c = search needs
+mul-write-fields : tie.Need-mul-write-fields
+mul-write-fields c = search needs
 
-write-heading-requires : tie.Need-write-heading-requires
-write-heading-requires c κs = search needs
+write-fields-requires : tie.Need-write-fields-requires
+write-fields-requires c κs = search needs
 
 add-write-children : tie.Need-add-write-children
 add-write-children c = search needs
@@ -22,7 +22,7 @@ write-children-requires c κs =
     let a = s .args in (
       (s .pre .0 .0, omega (arith, s .pre .0 .1), omega (arith, s .pre .0 .2)),
       children-room (reachesBy (a .rule)) (a .k) (a .area .now) (a .count) (a .from) (a .place) (a .at) (a .kept) (s .pre .0 .1) (s .pre .0 .2) (s .pre .1 .0) (s .pre .1 .1) _
-          (w .write-heading .ensures),
+          (w .write-fields .ensures),
     )
 
 same-length : tie.Need-same-length
@@ -35,14 +35,14 @@ returns c =
     let s = w .before .before .before in
     let a = s .args in
     next-put (reachesBy (a .rule)) (a .k) (a .area .now) (a .count) (a .from) (a .place) (a .at) (a .kept) (s .pre .0 .1) (s .pre .0 .2) (s .pre .1 .0) (s .pre .1 .1) _
-    (w .write-heading .ensures) _ (n .write-children .ensures)
+    (w .write-fields .ensures) _ (n .write-children .ensures)
 
 pub write-next-spec : {M : Type 1} → statement M
 write-next-spec =
     tie.close
     (tie.spec
-    mul-write-heading
-    write-heading-requires
+    mul-write-fields
+    write-fields-requires
     add-write-children
     write-children-requires
     same-length

@@ -7,7 +7,7 @@ use Rattle.calls.specs.Bounds.{mostBits}
 use Rattle.calls.specs.Causes.{Cause}
 use Rattle.calls.proofs.Decisions.{bounds}
 use Rattle.calls.proofs.Judged.{Clear, first-due, second-due, number-clear}
-use Rattle.search.specs.Search.{settingsCauses, lengthCauses, reportCauses}
+use Rattle.search.specs.Search.{settingsCauses, amountCauses, publicShareCauses}
 use Rattle.search.proofs.checks.first_cause.Statement.{statement}
 use Rattle.search.proofs.checks.first_cause.Tie as tie
 
@@ -20,10 +20,10 @@ module _ (s : tie.Start) where
   first = let a = s .args in settingsCauses (a .n) (a .t) (a .expander)
 
   abbrev second : List Cause
-  second = let a = s .args in lengthCauses (a .n) (a .seeds0 .now) (a .shares0 .now) (a .seeds1 .now) (a .shares1 .now)
+  second = let a = s .args in amountCauses (a .n) (a .seeds0 .now) (a .shares0 .now) (a .seeds1 .now) (a .shares1 .now)
 
   abbrev third : List Cause
-  third = let a = s .args in reportCauses (a .n) (a .seeds0 .now) (a .shares0 .now) (a .seeds1 .now) (a .shares1 .now)
+  third = let a = s .args in publicShareCauses (a .n) (a .seeds0 .now) (a .shares0 .now) (a .seeds1 .now) (a .shares1 .now)
 
 -- no cause of the settings applies
 settings : (c : tie.Else1) → Clear (first (begin c))
@@ -32,7 +32,7 @@ settings c = number-clear (first (begin c)) (omega arith, (omega arith, (omega a
 -- none of how much is lent does
 lengths : (c : tie.Else2) → Clear (second (begin (c .before .before)))
 lengths c =
-    number-clear (second (begin (c .before .before))) (omega arith, (omega arith, tt)) (sym (c .before .length-cause .ensures) ∙ c .if2 .left)
+    number-clear (second (begin (c .before .before))) (omega arith, (omega arith, tt)) (sym (c .before .amount-cause .ensures) ∙ c .if2 .left)
 
 settings-cause-requires : tie.Need-settings-cause-requires
 settings-cause-requires c κs = search needs
@@ -46,27 +46,27 @@ returns c =
 cast-levels : tie.Need-cast-levels
 cast-levels c = omega (arith, bounds mostBits (begin c .args .n) (settings c .0) .1)
 
-length-cause-requires : tie.Need-length-cause-requires
-length-cause-requires c κs = search needs
+amount-cause-requires : tie.Need-amount-cause-requires
+amount-cause-requires c κs = search needs
 
 returns-2 : tie.Need-returns-2
 returns-2 c =
     let e = c .before .before in
     let s = begin e in
-    let h = c .before .length-cause .ensures in
+    let h = c .before .amount-cause .ensures in
     h ∙ sym (first-due (second s) (third s) (λ z. c .if2 .taken (h ∙ z))) ∙ sym (second-due (first s) (second s ++ third s) (settings e))
 
-report-cause-requires : tie.Need-report-cause-requires
-report-cause-requires c κs = search needs
+public-share-cause-requires : tie.Need-public-share-cause-requires
+public-share-cause-requires c κs = search needs
 
 returns-3 : tie.Need-returns-3
 returns-3 c =
     let d = c .before in
     let e = d .before .before in
     let s = begin e in
-    c .report-cause .ensures ∙ sym (second-due (second s) (third s) (lengths d)) ∙ sym (second-due (first s) (second s ++ third s) (settings e))
+    c .public-share-cause .ensures ∙ sym (second-due (second s) (third s) (lengths d)) ∙ sym (second-due (first s) (second s ++ third s) (settings e))
 
 pub first-cause-spec : {M : Type 1} → statement M
 first-cause-spec =
     tie.close
-    (tie.spec settings-cause-requires returns cast-levels length-cause-requires returns-2 report-cause-requires returns-3)
+    (tie.spec settings-cause-requires returns cast-levels amount-cause-requires returns-2 public-share-cause-requires returns-3)

@@ -1,6 +1,6 @@
 -- `search::checks::payload_too_large` meets its contract. Assumes nothing.
 use borrow.Author.Needs.{needs}
-use Rattle.idpf.specs.Share.{payloadTooLarge}
+use Rattle.report_sums.specs.Checks.{payloadTooLarge}
 use Rattle.search.proofs.Judging.{first-applies, second-tells}
 use Rattle.search.proofs.checks.payload_too_large.Statement.{statement}
 use Rattle.search.proofs.checks.payload_too_large.Tie as tie

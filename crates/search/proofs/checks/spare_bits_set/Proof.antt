@@ -1,6 +1,6 @@
 -- `search::checks::spare_bits_set` meets its contract. Assumes nothing.
 use borrow.Author.Needs.{needs}
-use Rattle.idpf.specs.Share.{spareBitsSet}
+use Rattle.report_sums.specs.Checks.{spareBitsSet}
 use Rattle.search.proofs.Judging.{first-applies, second-tells}
 use Rattle.search.proofs.checks.spare_bits_set.Statement.{statement}
 use Rattle.search.proofs.checks.spare_bits_set.Tie as tie

@@ -1,0 +1,13 @@
+-- `report_sums::reports::server_sum` meets its contract: it is the first of two sums at one prefix. Assumes nothing.
+use borrow.Author.Needs.{needs}
+use Rattle.report_sums.proofs.reports.server_sum.Statement.{statement}
+use Rattle.report_sums.proofs.reports.server_sum.Tie as tie
+
+server-sums-requires : tie.Need-server-sums-requires
+server-sums-requires c κs = search needs
+
+returns : tie.Need-returns
+returns c = c .server-sums .ensures .0
+
+pub server-sum-spec : {M : Type 1} → statement M
+server-sum-spec = tie.close (tie.spec server-sums-requires returns)
