@@ -1,5 +1,5 @@
 -- The tests of causes 4, 6 and 7, in the form that the code has. Assumes nothing.
-use mathlib.Core.Path.{_≡_}
+use mathlib.Core.Path.{_≡_, refl}
 use mathlib.Core.Bool.{Bool, true, false, not}
 use mathlib.Core.List.{List}
 use Prim.Native.Nat.{ℕ, _+_, _*_, _/_, _%_, _≤_, _<_}
@@ -20,11 +20,16 @@ pub report-room : (n : ℕ) (seeds shares : List ℕ) {size count i : ℕ} → s
 report-room n seeds shares {size} {count} {i} e f h = omega (arith, e, share-inside n seeds shares i (rw f at h) e)
 
 -- a test that fails at one of m places, and one that passes at all
-pub one-fails : (m : ℕ) (f : ℕ → Bool) {count i : ℕ} → count ≡ m → i < count → f i ≡ false → false ≡ not (not (every m f))
+pub one-fails : (m : ℕ) (f : ℕ → Bool) {count i : ℕ} → count ≡ m → i < count → f i ≡ false → false ≡ every m f
 one-fails m f {count} {i} e h g = rw (every-false m f i (rw e at h) g)
 
-pub all-pass : (m : ℕ) (f : ℕ → Bool) {count i : ℕ} → count ≡ m → i ≤ count → count ≤ i → every i f ≡ true → true ≡ not (not (every m f))
-all-pass m f {count} {i} e h g t = let k : m ≡ i = omega arith in rw (k, t)
+pub all-passed : (m : ℕ) (f : ℕ → Bool) {count i : ℕ} → count ≡ m → i ≤ count → count ≤ i → every i f ≡ true → true ≡ every m f
+all-passed m f {count} {i} e h g t = let k : m ≡ i = omega arith in rw (k, t)
+
+-- what fails nowhere passes
+pub not-failed : (b : Bool) → b ≡ not (not b)
+not-failed true = refl
+not-failed false = refl
 
 -- the public share of report i, as the code takes it
 pub share-part : (n : ℕ) (shares : List ℕ) {size : ℕ} (i : ℕ) → size ≡ publicShareLength n

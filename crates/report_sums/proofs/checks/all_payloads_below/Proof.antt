@@ -1,103 +1,15 @@
--- `report_sums::checks::all_payloads_below` meets its contract. The loop's invariant: the public shares passed pass the test. Assumes nothing.
-use Prim.Native.Nat.{ℕ, _+_, _-_, _*_, _≤_}
-use native.Mathlib.Omega.{arith}
-use mathlib.Core.Path.{_≡_, sym, ap, _∙_}
-use mathlib.Core.Bool.{Bool, true}
-use mathlib.Core.List.{List}
-use lib.ListN.{length}
-use borrow.Author.Tests.{not-true, not-false}
+-- `report_sums::checks::all_payloads_below` meets its contract. Assumes nothing.
+use mathlib.Core.Path.{_∙_}
 use borrow.Author.Needs.{needs}
-use Rattle.group.specs.Modular.{p}
-use Rattle.point.specs.PublicShare.{publicShareLength, every, payloadsBelow}
-use Rattle.report_sums.specs.Reports.{reportCount, publicShareAt}
-use Rattle.walk.proofs.PublicTests.{every-none, every-more}
-use Rattle.report_sums.proofs.ReportChecks.{report-room, share-part, one-fails, all-pass}
+use Rattle.report_sums.proofs.ReportChecks.{not-failed}
 use Rattle.report_sums.proofs.checks.all_payloads_below.Statement.{statement}
 use Rattle.report_sums.proofs.checks.all_payloads_below.Tie as tie
 
-abbrev passes : ℕ → List ℕ → ℕ → Bool
-passes n shares i = payloadsBelow p n (publicShareAt n shares i)
+all-pass-requires : tie.Need-all-pass-requires
+all-pass-requires c κs = search needs
 
-abbrev Inv-loop : tie.InvT-loop
-Inv-loop n seeds shares size count i₀ i = (i ≤ count) × (every i (passes n shares) ≡ true)
-
-abbrev μ-loop : tie.MeasureT-loop
-μ-loop n seeds shares size count i₀ i = count - i
-
-public-share-length-requires : tie.Need-public-share-length-requires Inv-loop μ-loop
-public-share-length-requires c κs = search needs
-
-report-count-requires : tie.Need-report-count-requires Inv-loop μ-loop
-report-count-requires c κs = search needs
-
--- the next public share lies within
-room : (c : tie.In-loop Inv-loop μ-loop) →
-    c .before .before .before .public-share-length .result * c .before .loop .i + publicShareLength (c .before .before .before .before .before .before .args .n)
-    ≤ length (c .before .before .before .before .before .before .args .shares .now)
-room c =
-    let h = c .before .before in
-    let a = h .before .before .before .before .args in
-    report-room (a .n) (a .seeds .now) (a .shares .now) (h .before .public-share-length .ensures) (h .report-count .ensures) (c .loop-test .taken)
-
-loop-holds : tie.Need-loop-holds Inv-loop μ-loop
-loop-holds c =
-    let a = c .before .before .before .before .args in
-    (omega arith, every-none (passes (a .n) (a .shares .now)))
-
-mul-payloads-below-at : tie.Need-mul-payloads-below-at Inv-loop μ-loop
-mul-payloads-below-at c = omega (arith, room c)
-
-payloads-below-at-requires : tie.Need-payloads-below-at-requires Inv-loop μ-loop
-payloads-below-at-requires c κs = room c
-
-returns : tie.Need-returns Inv-loop μ-loop
-returns c =
-    let l = c .before .before .before in
-    let h = l .before in
-    let a = h .before .before .before .before .args in
-    one-fails (reportCount (a .n) (a .seeds .now) (a .shares .now)) (passes (a .n) (a .shares .now)) (h .report-count .ensures)
-    (c .before .before .loop-test .taken)
-    (ap (payloadsBelow p (a .n)) (share-part (a .n) (a .shares .now) (l .loop .i) (h .before .public-share-length .ensures))
-    ∙ sym (c .before .payloads-below-at .ensures) ∙ not-true _ (c .if1 .taken))
-
-add-i : tie.Need-add-i Inv-loop μ-loop
-add-i c = omega arith
-
-loop-less : tie.Need-loop-less Inv-loop μ-loop
-loop-less c = omega arith
-
-loop-again : tie.Need-loop-again Inv-loop μ-loop
-loop-again c =
-    let l = c .before .before .before in
-    let h = l .before in
-    let a = h .before .before .before .before .args in (
-      omega arith,
-      every-more (l .loop .i) (passes (a .n) (a .shares .now)) (l .loop .inv .1)
-          (ap (payloadsBelow p (a .n)) (share-part (a .n) (a .shares .now) (l .loop .i) (h .before .public-share-length .ensures))
-          ∙ sym (c .before .payloads-below-at .ensures) ∙ not-false _ (c .if1 .left)),
-    )
-
-returns-2 : tie.Need-returns-2 Inv-loop μ-loop
-returns-2 c =
-    let l = c .before in
-    let h = l .before in
-    let a = h .before .before .before .before .args in
-    all-pass (reportCount (a .n) (a .seeds .now) (a .shares .now)) (passes (a .n) (a .shares .now)) (h .report-count .ensures)
-    (l .loop .inv .0) (c .loop-test .left) (l .loop .inv .1)
+returns : tie.Need-returns
+returns c = c .all-pass .ensures ∙ not-failed _
 
 pub all-payloads-below-spec : {M : Type 1} → statement M
-all-payloads-below-spec =
-    tie.close
-    (tie.spec
-    Inv-loop
-    μ-loop
-    public-share-length-requires
-    report-count-requires
-    loop-holds
-    mul-payloads-below-at
-    payloads-below-at-requires
-    returns
-    add-i
-    loop-less
-    loop-again
-    returns-2)
+all-payloads-below-spec = tie.close (tie.spec all-pass-requires returns)

@@ -1,102 +1,15 @@
--- `report_sums::checks::all_spare_bits_zero` meets its contract. The loop's invariant: the public shares passed pass the test. Assumes nothing.
-use Prim.Native.Nat.{ℕ, _+_, _-_, _*_, _≤_}
-use native.Mathlib.Omega.{arith}
-use mathlib.Core.Path.{_≡_, sym, ap, _∙_}
-use mathlib.Core.Bool.{Bool, true}
-use mathlib.Core.List.{List}
-use lib.ListN.{length}
-use borrow.Author.Tests.{not-true, not-false}
+-- `report_sums::checks::all_spare_bits_zero` meets its contract. Assumes nothing.
+use mathlib.Core.Path.{_∙_}
 use borrow.Author.Needs.{needs}
-use Rattle.point.specs.PublicShare.{publicShareLength, every, spareBitsZero}
-use Rattle.report_sums.specs.Reports.{reportCount, publicShareAt}
-use Rattle.walk.proofs.PublicTests.{every-none, every-more}
-use Rattle.report_sums.proofs.ReportChecks.{report-room, share-part, one-fails, all-pass}
+use Rattle.report_sums.proofs.ReportChecks.{not-failed}
 use Rattle.report_sums.proofs.checks.all_spare_bits_zero.Statement.{statement}
 use Rattle.report_sums.proofs.checks.all_spare_bits_zero.Tie as tie
 
-abbrev passes : ℕ → List ℕ → ℕ → Bool
-passes n shares i = spareBitsZero n (publicShareAt n shares i)
+all-pass-requires : tie.Need-all-pass-requires
+all-pass-requires c κs = search needs
 
-abbrev Inv-loop : tie.InvT-loop
-Inv-loop n seeds shares size count i₀ i = (i ≤ count) × (every i (passes n shares) ≡ true)
-
-abbrev μ-loop : tie.MeasureT-loop
-μ-loop n seeds shares size count i₀ i = count - i
-
-public-share-length-requires : tie.Need-public-share-length-requires Inv-loop μ-loop
-public-share-length-requires c κs = search needs
-
-report-count-requires : tie.Need-report-count-requires Inv-loop μ-loop
-report-count-requires c κs = search needs
-
--- the next public share lies within
-room : (c : tie.In-loop Inv-loop μ-loop) →
-    c .before .before .before .public-share-length .result * c .before .loop .i + publicShareLength (c .before .before .before .before .before .before .args .n)
-    ≤ length (c .before .before .before .before .before .before .args .shares .now)
-room c =
-    let h = c .before .before in
-    let a = h .before .before .before .before .args in
-    report-room (a .n) (a .seeds .now) (a .shares .now) (h .before .public-share-length .ensures) (h .report-count .ensures) (c .loop-test .taken)
-
-loop-holds : tie.Need-loop-holds Inv-loop μ-loop
-loop-holds c =
-    let a = c .before .before .before .before .args in
-    (omega arith, every-none (passes (a .n) (a .shares .now)))
-
-mul-spare-bits-zero-at : tie.Need-mul-spare-bits-zero-at Inv-loop μ-loop
-mul-spare-bits-zero-at c = omega (arith, room c)
-
-spare-bits-zero-at-requires : tie.Need-spare-bits-zero-at-requires Inv-loop μ-loop
-spare-bits-zero-at-requires c κs = room c
-
-returns : tie.Need-returns Inv-loop μ-loop
-returns c =
-    let l = c .before .before .before in
-    let h = l .before in
-    let a = h .before .before .before .before .args in
-    one-fails (reportCount (a .n) (a .seeds .now) (a .shares .now)) (passes (a .n) (a .shares .now)) (h .report-count .ensures)
-    (c .before .before .loop-test .taken)
-    (ap (spareBitsZero (a .n)) (share-part (a .n) (a .shares .now) (l .loop .i) (h .before .public-share-length .ensures))
-    ∙ sym (c .before .spare-bits-zero-at .ensures) ∙ not-true _ (c .if1 .taken))
-
-add-i : tie.Need-add-i Inv-loop μ-loop
-add-i c = omega arith
-
-loop-less : tie.Need-loop-less Inv-loop μ-loop
-loop-less c = omega arith
-
-loop-again : tie.Need-loop-again Inv-loop μ-loop
-loop-again c =
-    let l = c .before .before .before in
-    let h = l .before in
-    let a = h .before .before .before .before .args in (
-      omega arith,
-      every-more (l .loop .i) (passes (a .n) (a .shares .now)) (l .loop .inv .1)
-          (ap (spareBitsZero (a .n)) (share-part (a .n) (a .shares .now) (l .loop .i) (h .before .public-share-length .ensures))
-          ∙ sym (c .before .spare-bits-zero-at .ensures) ∙ not-false _ (c .if1 .left)),
-    )
-
-returns-2 : tie.Need-returns-2 Inv-loop μ-loop
-returns-2 c =
-    let l = c .before in
-    let h = l .before in
-    let a = h .before .before .before .before .args in
-    all-pass (reportCount (a .n) (a .seeds .now) (a .shares .now)) (passes (a .n) (a .shares .now)) (h .report-count .ensures)
-    (l .loop .inv .0) (c .loop-test .left) (l .loop .inv .1)
+returns : tie.Need-returns
+returns c = c .all-pass .ensures ∙ not-failed _
 
 pub all-spare-bits-zero-spec : {M : Type 1} → statement M
-all-spare-bits-zero-spec =
-    tie.close
-    (tie.spec
-    Inv-loop
-    μ-loop
-    public-share-length-requires
-    report-count-requires
-    loop-holds
-    mul-spare-bits-zero-at
-    spare-bits-zero-at-requires
-    returns
-    add-i
-    loop-less
-    loop-again
-    returns-2)
+all-spare-bits-zero-spec = tie.close (tie.spec all-pass-requires returns)
