@@ -14,47 +14,14 @@ Inv-loop table k₀ s₀ u₀ j₀ k s u j = Reached (bytesOf k₀) (bytesOf s�
 abbrev μ-loop : tie.MeasureT-loop
 μ-loop table k₀ s₀ u₀ j₀ k s u j = 9 - j
 
-load-requires : tie.Need-load-requires Inv-loop μ-loop
-load-requires c κs = search needs
-
-begin-requires : tie.Need-begin-requires Inv-loop μ-loop
-begin-requires c κs = search needs
-
-begin-requires-2 : tie.Need-begin-requires-2 Inv-loop μ-loop
-begin-requires-2 c κs = search needs
-
 loop-holds : tie.Need-loop-holds Inv-loop μ-loop
 loop-holds c = (start _ _, start _ _, search needs)
-
-next-round-key-requires : tie.Need-next-round-key-requires Inv-loop μ-loop
-next-round-key-requires c κs = search needs
-
-round-requires : tie.Need-round-requires Inv-loop μ-loop
-round-requires c κs = search needs
-
-round-requires-2 : tie.Need-round-requires-2 Inv-loop μ-loop
-round-requires-2 c κs = search needs
-
-add-j : tie.Need-add-j Inv-loop μ-loop
-add-j c = search needs
-
-loop-less : tie.Need-loop-less Inv-loop μ-loop
-loop-less c = search needs
 
 loop-again : tie.Need-loop-again Inv-loop μ-loop
 loop-again c =
     let l = c .before .before .before .before .loop .inv in
     let k = c .before .before .next-round-key .ensures in
     (next (l .0) k (c .before .round .ensures), next (l .1) k (c .round2 .ensures), search needs)
-
-next-round-key-requires-2 : tie.Need-next-round-key-requires-2 Inv-loop μ-loop
-next-round-key-requires-2 c κs = search needs
-
-last-round-requires : tie.Need-last-round-requires Inv-loop μ-loop
-last-round-requires c κs = search needs
-
-last-round-requires-2 : tie.Need-last-round-requires-2 Inv-loop μ-loop
-last-round-requires-2 c κs = search needs
 
 returns : tie.Need-returns Inv-loop μ-loop
 returns c =
@@ -70,20 +37,6 @@ returns c =
 pub encrypt-two-with-spec : {M : Type 1} → statement M
 encrypt-two-with-spec =
     tie.close
-    (tie.spec
-    Inv-loop
-    μ-loop
-    load-requires
-    begin-requires
-    begin-requires-2
-    loop-holds
-    next-round-key-requires
-    round-requires
-    round-requires-2
-    add-j
-    loop-less
-    loop-again
-    next-round-key-requires-2
-    last-round-requires
-    last-round-requires-2
-    returns)
+    (tie.spec Inv-loop μ-loop (λ c κs. search needs) (λ c κs. search needs) (λ c κs. search needs) loop-holds (λ c κs. search needs)
+    (λ c κs. search needs) (λ c κs. search needs) (λ c. search needs) (λ c. search needs) loop-again (λ c κs. search needs) (λ c κs. search needs)
+    (λ c κs. search needs) returns)

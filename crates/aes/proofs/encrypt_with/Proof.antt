@@ -14,35 +14,11 @@ Inv-loop table k₀ s₀ i₀ k s i = Reached (bytesOf k₀) (bytesOf s₀) (byt
 abbrev μ-loop : tie.MeasureT-loop
 μ-loop table k₀ s₀ i₀ k s i = 9 - i
 
-load-requires : tie.Need-load-requires Inv-loop μ-loop
-load-requires c κs = search needs
-
-begin-requires : tie.Need-begin-requires Inv-loop μ-loop
-begin-requires c κs = search needs
-
 loop-holds : tie.Need-loop-holds Inv-loop μ-loop
 loop-holds c = (start _ _, search needs)
 
-next-round-key-requires : tie.Need-next-round-key-requires Inv-loop μ-loop
-next-round-key-requires c κs = search needs
-
-round-requires : tie.Need-round-requires Inv-loop μ-loop
-round-requires c κs = search needs
-
-add-i : tie.Need-add-i Inv-loop μ-loop
-add-i c = search needs
-
-loop-less : tie.Need-loop-less Inv-loop μ-loop
-loop-less c = search needs
-
 loop-again : tie.Need-loop-again Inv-loop μ-loop
 loop-again c = (next (c .before .before .before .loop .inv .0) (c .before .next-round-key .ensures) (c .round .ensures), search needs)
-
-next-round-key-requires-2 : tie.Need-next-round-key-requires-2 Inv-loop μ-loop
-next-round-key-requires-2 c κs = search needs
-
-last-round-requires : tie.Need-last-round-requires Inv-loop μ-loop
-last-round-requires c κs = search needs
 
 returns : tie.Need-returns Inv-loop μ-loop
 returns c =
@@ -55,17 +31,5 @@ returns c =
 pub encrypt-with-spec : {M : Type 1} → statement M
 encrypt-with-spec =
     tie.close
-    (tie.spec
-    Inv-loop
-    μ-loop
-    load-requires
-    begin-requires
-    loop-holds
-    next-round-key-requires
-    round-requires
-    add-i
-    loop-less
-    loop-again
-    next-round-key-requires-2
-    last-round-requires
-    returns)
+    (tie.spec Inv-loop μ-loop (λ c κs. search needs) (λ c κs. search needs) loop-holds (λ c κs. search needs) (λ c κs. search needs)
+    (λ c. search needs) (λ c. search needs) loop-again (λ c κs. search needs) (λ c κs. search needs) returns)

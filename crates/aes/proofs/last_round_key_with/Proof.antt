@@ -15,27 +15,12 @@ Inv-loop table k₀ n₀ k n = (bytesOf k ≡ roundKey (bytesOf k₀) n) × (n �
 abbrev μ-loop : tie.MeasureT-loop
 μ-loop table k₀ n₀ k n = 10 - n
 
-load-requires : tie.Need-load-requires Inv-loop μ-loop
-load-requires c κs = search needs
-
 loop-holds : tie.Need-loop-holds Inv-loop μ-loop
 unfolding roundKey
 loop-holds c = (refl, search needs)
 
-next-round-key-requires : tie.Need-next-round-key-requires Inv-loop μ-loop
-next-round-key-requires c κs = search needs
-
-add-n : tie.Need-add-n Inv-loop μ-loop
-add-n c = search needs
-
-loop-less : tie.Need-loop-less Inv-loop μ-loop
-loop-less c = search needs
-
 loop-again : tie.Need-loop-again Inv-loop μ-loop
 loop-again c = (next-key _ _ (c .before .before .loop .inv .0) (c .next-round-key .ensures), search needs)
-
-store-requires : tie.Need-store-requires Inv-loop μ-loop
-store-requires c κs = search needs
 
 returns : tie.Need-returns Inv-loop μ-loop
 returns c =
@@ -46,14 +31,5 @@ returns c =
 pub last-round-key-with-spec : {M : Type 1} → statement M
 last-round-key-with-spec =
     tie.close
-    (tie.spec
-    Inv-loop
-    μ-loop
-    load-requires
-    loop-holds
-    next-round-key-requires
-    add-n
-    loop-less
-    loop-again
-    store-requires
-    returns)
+    (tie.spec Inv-loop μ-loop (λ c κs. search needs) loop-holds (λ c κs. search needs) (λ c. search needs) (λ c. search needs) loop-again
+    (λ c κs. search needs) returns)

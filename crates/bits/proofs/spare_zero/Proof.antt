@@ -11,15 +11,6 @@ use Rattle.bits.proofs.spare_zero.Tie as tie
 returns : tie.Need-returns
 returns c = sym (spare-past (c .before .before .args .n) (c .before .before .args .s .now) (omega arith))
 
-shared-slice-read-wide : tie.Need-shared-slice-read-wide
-shared-slice-read-wide c = search needs
-
-wide-requires : tie.Need-wide-requires
-wide-requires c κs = search needs
-
-shr-if2 : tie.Need-shr-if2
-shr-if2 c = search needs
-
 rem-if2 : tie.Need-rem-if2
 rem-if2 c = weight-pos (c .before .before .before .before .args .n)
 
@@ -27,12 +18,6 @@ returns-2 : tie.Need-returns-2
 returns-2 c =
     let a = c .before .before .before .before .before .args in
     sym (spare-no (a .n) (a .s .now) (omega arith) (c .before .wide .result) (c .before .wide .ensures .0) (c .if2 .taken))
-
-add-zero-from : tie.Need-add-zero-from
-add-zero-from c = search needs
-
-zero-from-requires : tie.Need-zero-from-requires
-zero-from-requires c κs = search needs
 
 returns-3 : tie.Need-returns-3
 returns-3 c =
@@ -43,13 +28,5 @@ returns-3 c =
 pub spare-zero-spec : {M : Type 1} → statement M
 spare-zero-spec =
     tie.close
-    (tie.spec
-    returns
-    shared-slice-read-wide
-    wide-requires
-    shr-if2
-    rem-if2
-    returns-2
-    add-zero-from
-    zero-from-requires
+    (tie.spec returns (λ c. search needs) (λ c κs. search needs) (λ c. search needs) rem-if2 returns-2 (λ c. search needs) (λ c κs. search needs)
     returns-3)

@@ -14,12 +14,6 @@ use borrow.Author.Needs.{needs}
 use Rattle.capi.proofs.tally_block.Statement.{statement}
 use Rattle.capi.proofs.tally_block.Tie as tie
 
-choose-requires : tie.Need-choose-requires
-choose-requires c κs = search needs
-
-enum-known-e : tie.Need-enum-known-e
-enum-known-e c = search needs
-
 returns : tie.Need-returns
 returns c =
     let k = c .before in
@@ -35,21 +29,6 @@ returns-2 c =
     let a = h .before .before .before .args in
     rw (no-room (a .expander) (a .seed .now) (a .j) (length (a .block .now)) (k .before .e .given .0 .0) (sym (h .choose .ensures) ∙ k .before .e .given .1) (c .before .if1 .left) (c .if2 .taken))
     (exit-equal refl refl (sym (overlay-nil (a .block .now))))
-
-read16-requires : tie.Need-read16-requires
-read16-requires c κs = search needs
-
-block-requires : tie.Need-block-requires
-block-requires c κs = search needs
-
-write16-requires : tie.Need-write16-requires
-write16-requires c κs = search needs
-
-enum-told : tie.Need-enum-told
-enum-told c = search needs
-
-same-length : tie.Need-same-length
-same-length c = search needs
 
 returns-3 : tie.Need-returns-3
 returns-3 c =
@@ -79,15 +58,5 @@ returns-4 c =
 pub tally-block-spec : {M : Type 1} → statement M
 tally-block-spec =
     tie.close
-    (tie.spec
-    choose-requires
-    enum-known-e
-    returns
-    returns-2
-    read16-requires
-    block-requires
-    write16-requires
-    enum-told
-    same-length
-    returns-3
-    returns-4)
+    (tie.spec (λ c κs. search needs) (λ c. search needs) returns returns-2 (λ c κs. search needs) (λ c κs. search needs) (λ c κs. search needs)
+    (λ c. search needs) (λ c. search needs) returns-3 returns-4)

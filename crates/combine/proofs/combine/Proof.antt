@@ -54,9 +54,6 @@ next-few c =
 
 -- ---- the needs
 
-first-cause-requires : tie.Need-first-cause-requires
-first-cause-requires c κs = search needs
-
 returns : tie.Need-returns
 returns c =
     let k = c .before in
@@ -64,17 +61,8 @@ returns c =
     told-exit (a .n) (a .t) (a .query .now) (a .share0 .now) (a .share1 .now) (a .out .now) _ _
     (told-lent (a .n) (a .t) (a .query .now) (a .share0 .now) (a .share1 .now) (a .out .now) (k .first-cause .result) (k .first-cause .ensures) (c .if1 .taken))
 
-prefix-length-requires : tie.Need-prefix-length-requires
-prefix-length-requires c κs = search needs
-
-add-longer : tie.Need-add-longer
-add-longer c = search needs
-
 count-kept-requires : tie.Need-count-kept-requires
 count-kept-requires c κs = let r = all-well (c .before) in r .first ∙ sym (r .second)
-
-packed-length-requires : tie.Need-packed-length-requires
-packed-length-requires c κs = search needs
 
 mul-list-size : tie.Need-mul-list-size
 mul-list-size c =
@@ -105,9 +93,6 @@ write-kept-requires c κs =
     (k .count-kept .result) (k .count-kept .ensures .0) (k .before .prefix-length .result) (k .before .prefix-length .ensures .0)
     (w .before .if2 .taken) (w .packed-length .result) (w .packed-length .ensures) in
     (omega (arith, q .whole), (q .no-spares, ((r .first, r .second), omega (arith, size, c .before .if3 .left))))
-
-same-length : tie.Need-same-length
-same-length c = search needs
 
 returns-3 : tie.Need-returns-3
 returns-3 c =
@@ -141,12 +126,6 @@ returns-5 c =
     (k .count-kept .result) (k .count-kept .ensures .0) (k .before .prefix-length .result) (k .before .prefix-length .ensures .0)
     (c .before .before .if2 .left) (c .before .if4 .left) (c .if5 .taken))
 
-mul-next-size : tie.Need-mul-next-size
-mul-next-size c = search needs
-
-packed-length-requires-2 : tie.Need-packed-length-requires-2
-packed-length-requires-2 c κs = search needs
-
 mul-next-size-2 : tie.Need-mul-next-size-2
 mul-next-size-2 c = omega (arith, next-few c)
 
@@ -163,12 +142,6 @@ returns-6 c =
     (next-short (a .n) (a .t) (a .query .now) (a .share0 .now) (a .share1 .now) (a .out .now) (byte e) (all-well e)
     (k .count-kept .result) (k .count-kept .ensures .0) (k .before .prefix-length .result) (k .before .prefix-length .ensures .0)
     (w .before .before .before .if2 .left) (w .before .before .if4 .left) (w .packed-length2 .result) (child w) (c .if6 .taken))
-
-mul-write-fields : tie.Need-mul-write-fields
-mul-write-fields c = search needs
-
-write-fields-requires : tie.Need-write-fields-requires
-write-fields-requires c κs = search needs
 
 write-kept-requires-2 : tie.Need-write-kept-requires-2
 write-kept-requires-2 c κs =
@@ -187,9 +160,6 @@ write-kept-requires-2 c κs =
       (query-ready (a .n) (a .query .now) (r .a-query) .no-spares, ((r .first, r .second), omega (arith, size, f .if6 .left, simp putAt-length at (ap length (h .ensures))))),
     )
 
-same-length-2 : tie.Need-same-length-2
-same-length-2 c = search needs
-
 returns-7 : tie.Need-returns-7
 returns-7 c =
     let h = c .before .before .before .before .before .before in
@@ -207,27 +177,6 @@ returns-7 c =
 pub combine-spec : {M : Type 1} → statement M
 combine-spec =
     tie.close
-    (tie.spec
-    first-cause-requires
-    returns
-    prefix-length-requires
-    add-longer
-    count-kept-requires
-    packed-length-requires
-    mul-list-size
-    returns-2
-    write-kept-requires
-    same-length
-    returns-3
-    returns-4
-    returns-5
-    mul-next-size
-    packed-length-requires-2
-    mul-next-size-2
-    add-next-size
-    returns-6
-    mul-write-fields
-    write-fields-requires
-    write-kept-requires-2
-    same-length-2
-    returns-7)
+    (tie.spec (λ c κs. search needs) returns (λ c κs. search needs) (λ c. search needs) count-kept-requires (λ c κs. search needs) mul-list-size
+    returns-2 write-kept-requires (λ c. search needs) returns-3 returns-4 returns-5 (λ c. search needs) (λ c κs. search needs) mul-next-size-2
+    add-next-size returns-6 (λ c. search needs) (λ c κs. search needs) write-kept-requires-2 (λ c. search needs) returns-7)

@@ -21,37 +21,22 @@ read-more-requires : tie.Need-read-more-requires Inv-loop μ-loop
 read-more-requires c κs = c .before .before .loop .inv .1
 
 -- src/main.rt:36:13
-same-length : tie.Need-same-length Inv-loop μ-loop
-same-length c = omega arith
-
 -- src/main.rt:36:13
 returns : tie.Need-returns Inv-loop μ-loop
 returns c = counts _ _ (omega arith)
 
 -- src/main.rt:42:13
-same-length-2 : tie.Need-same-length-2 Inv-loop μ-loop
-same-length-2 c = omega arith
-
 -- src/main.rt:42:13
 returns-2 : tie.Need-returns-2 Inv-loop μ-loop
 returns-2 c = counts _ _ (omega arith)
 
 -- src/main.rt:47:9
-add-done : tie.Need-add-done Inv-loop μ-loop
-add-done c = omega arith
-
 -- src/main.rt:33:5
-loop-less : tie.Need-loop-less Inv-loop μ-loop
-loop-less c = omega arith
-
 -- src/main.rt:33:5
 loop-again : tie.Need-loop-again Inv-loop μ-loop
 loop-again c = (omega arith, omega arith)
 
 -- src/main.rt:29:1
-same-length-3 : tie.Need-same-length-3 Inv-loop μ-loop
-same-length-3 c = omega arith
-
 -- src/main.rt:29:1
 returns-3 : tie.Need-returns-3 Inv-loop μ-loop
 returns-3 c = counts _ _ (omega arith)
@@ -59,17 +44,5 @@ returns-3 c = counts _ _ (omega arith)
 pub read-text-spec : {M : Type 1} → statement M
 read-text-spec =
     tie.close
-    (tie.spec
-    Inv-loop
-    μ-loop
-    loop-holds
-    read-more-requires
-    same-length
-    returns
-    same-length-2
-    returns-2
-    add-done
-    loop-less
-    loop-again
-    same-length-3
-    returns-3)
+    (tie.spec Inv-loop μ-loop loop-holds read-more-requires (λ c. omega arith) returns (λ c. omega arith) returns-2 (λ c. omega arith)
+    (λ c. omega arith) loop-again (λ c. omega arith) returns-3)

@@ -68,12 +68,6 @@ answered e = let o = e .before .before .before .before in e .is-expander .ensure
 
 -- ---- the needs
 
-read-sheet-requires : tie.Need-read-sheet-requires
-read-sheet-requires c κs = search needs
-
-refusal-requires : tie.Need-refusal-requires
-refusal-requires c κs = search needs
-
 returns : tie.Need-returns
 returns c =
     let h = c .before .before .before in
@@ -81,20 +75,11 @@ returns c =
     let none : isSheet (a .text .now) ≡ false = sym (h .read-sheet .ensures .0) ∙ not-true _ (c .before .if1 .taken) in
     refused-reply (a .text .now) (a .out .now) 10 _ (no-sheet (a .text .now) (length (a .out .now)) none) (c .refusal .ensures .0) (c .refusal .ensures .1)
 
-refusal-requires-2 : tie.Need-refusal-requires-2
-refusal-requires-2 c κs = search needs
-
 returns-2 : tie.Need-returns-2
 returns-2 c =
     let e = c .before .before in
     let is = no-bits (text e) (length (out e)) (read e) (omega (arith, c .before .if2 .taken, says e .n-read)) in
     refused-reply (text e) (out e) 1 _ is (c .refusal2 .ensures .0) (c .refusal2 .ensures .1)
-
-threshold-outside-requires : tie.Need-threshold-outside-requires
-threshold-outside-requires c κs = search needs
-
-refusal-requires-3 : tie.Need-refusal-requires-3
-refusal-requires-3 c κs = search needs
 
 returns-3 : tie.Need-returns-3
 returns-3 c =
@@ -103,12 +88,6 @@ returns-3 c =
     let e = f .before in
     let beyond = ap (outside mostThreshold) (sym (says e .t-read)) ∙ sym (h .threshold-outside .ensures) ∙ c .before .if3 .taken in
     refused-reply (text e) (out e) 2 _ (bad-threshold (text e) (length (out e)) (read e) (from f) (to f) beyond) (c .refusal3 .ensures .0) (c .refusal3 .ensures .1)
-
-is-expander-requires : tie.Need-is-expander-requires
-is-expander-requires c κs = search needs
-
-refusal-requires-4 : tie.Need-refusal-requires-4
-refusal-requires-4 c κs = search needs
 
 returns-4 : tie.Need-returns-4
 returns-4 c =
@@ -138,9 +117,6 @@ solve-requires c κs =
       (s .n-read, s .t-read, s .count-read, s .lines-placed),
     )
 
-same-length : tie.Need-same-length
-same-length c = search needs
-
 returns-5 : tie.Need-returns-5
 returns-5 c =
     let s = c .before .before in
@@ -155,18 +131,5 @@ returns-5 c =
 pub answer-spec : {M : Type 1} → statement M
 answer-spec =
     tie.close
-    (tie.spec
-    read-sheet-requires
-    refusal-requires
-    returns
-    refusal-requires-2
-    returns-2
-    threshold-outside-requires
-    refusal-requires-3
-    returns-3
-    is-expander-requires
-    refusal-requires-4
-    returns-4
-    solve-requires
-    same-length
-    returns-5)
+    (tie.spec (λ c κs. search needs) (λ c κs. search needs) returns (λ c κs. search needs) returns-2 (λ c κs. search needs) (λ c κs. search needs)
+    returns-3 (λ c κs. search needs) (λ c κs. search needs) returns-4 solve-requires (λ c. search needs) returns-5)

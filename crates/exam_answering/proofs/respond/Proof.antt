@@ -5,32 +5,17 @@ use Rattle.exam_answering.proofs.Responding.{answer-replied, space-repl
 use Rattle.exam_answering.proofs.respond.Statement.{statement}
 use Rattle.exam_answering.proofs.respond.Tie as tie
 
-answer-requires : tie.Need-answer-requires
-answer-requires c κs = search needs
-
-same-length : tie.Need-same-length
-same-length c = search needs
-
 returns : tie.Need-returns
 returns c =
     let a = c .before .before .before .before in
     let s = a .before .before .before .before in
     replied _ _ (answer-replied (s .args .text .now) (s .args .out .now) _ _ _ (reply-parts _ _ (a .answer .ensures)) (c .if1 .taken))
 
-same-length-2 : tie.Need-same-length-2
-same-length-2 c = search needs
-
 returns-2 : tie.Need-returns-2
 returns-2 c =
     let a = c .before .before .before .before .before .before in
     let s = a .before .before .before .before in
     replied _ _ (space-replied (s .args .text .now) (s .args .out .now) _ _ _ (reply-parts _ _ (a .answer .ensures)) (c .if2 .taken))
-
-refused-line-requires : tie.Need-refused-line-requires
-refused-line-requires c κs = search needs
-
-same-length-3 : tie.Need-same-length-3
-same-length-3 c = search needs
 
 returns-3 : tie.Need-returns-3
 returns-3 c =
@@ -46,12 +31,4 @@ returns-3 c =
 pub respond-spec : {M : Type 1} → statement M
 respond-spec =
     tie.close
-    (tie.spec
-    answer-requires
-    same-length
-    returns
-    same-length-2
-    returns-2
-    refused-line-requires
-    same-length-3
-    returns-3)
+    (tie.spec (λ c κs. search needs) (λ c. search needs) returns (λ c. search needs) returns-2 (λ c κs. search needs) (λ c. search needs) returns-3)

@@ -18,9 +18,6 @@ same at k rest room h =
       | no l ↦ le-leb at (room - k - rest) (omega arith) ∙ sym (le-leb (at + (k + rest)) room (omega arith))
     ]
 
-packed-length-requires : tie.Need-packed-length-requires
-packed-length-requires c κs = search needs
-
 returns : tie.Need-returns
 returns c =
     let a = c .before .before .args in
@@ -46,4 +43,4 @@ returns-4 c =
     rw (eq-eqb (a .bytes) (packedLength (a .k)) (narrow (c .before .before))) (same (a .at) (a .k) (a .rest) (a .room) (omega arith))
 
 pub has-room-spec : {M : Type 1} → statement M
-has-room-spec = tie.close (tie.spec packed-length-requires returns returns-2 returns-3 returns-4)
+has-room-spec = tie.close (tie.spec (λ c κs. search needs) returns returns-2 returns-3 returns-4)

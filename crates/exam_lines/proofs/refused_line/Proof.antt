@@ -17,12 +17,6 @@ use Rattle.exam_lines.proofs.refused_line.Tie as tie
 size : (c : tie.After-decimal-length) → c .decimal-length .result + 9 ≡ length (refusedText (c .before .before .args .number))
 size c = let n = c .before .before .args .number in omega (arith, length-append (decimal n) (newline ∷ []), c .decimal-length .ensures .0)
 
-decimal-length-requires : tie.Need-decimal-length-requires
-decimal-length-requires c κs = search needs
-
-add-size : tie.Need-add-size
-add-size c = search needs
-
 returns : tie.Need-returns
 unfolding refusedOutcome
 returns c =
@@ -32,9 +26,6 @@ returns c =
 
 write-refused-requires : tie.Need-write-refused-requires
 write-refused-requires c κs = omega (arith, size (c .before .before), c .before .if1 .left)
-
-same-length : tie.Need-same-length
-same-length c = search needs
 
 returns-2 : tie.Need-returns-2
 unfolding refusedOutcome
@@ -47,12 +38,4 @@ returns-2 c =
     (exit-equal refl (size d) (w .write-refused .ensures))
 
 pub refused-line-spec : {M : Type 1} → statement M
-refused-line-spec =
-    tie.close
-    (tie.spec
-    decimal-length-requires
-    add-size
-    returns
-    write-refused-requires
-    same-length
-    returns-2)
+refused-line-spec = tie.close (tie.spec (λ c κs. search needs) (λ c. search needs) returns write-refused-requires (λ c. search needs) returns-2)

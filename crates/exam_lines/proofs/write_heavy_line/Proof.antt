@@ -10,9 +10,6 @@ use Rattle.exam_lines.proofs.write_heavy_line.Tie as tie
 abbrev start : tie.After-has-room → tie.Start
 start h = h .before .before .before
 
-has-room-requires : tie.Need-has-room-requires
-has-room-requires c κs = search needs
-
 returns : tie.Need-returns
 returns c =
     let a = start (c .before) .args in
@@ -24,9 +21,6 @@ put-heavy-line-requires c κs =
     let a = start (e .before) .args in
     has-line-room heavyLine (a .out .now) (a .at) (a .n) (a .packed .now) 7 (heavy-size (a .n) (a .packed .now)) (sym (e .before .has-room .ensures) ∙ not-false _ (e .if1 .left))
 
-same-length : tie.Need-same-length
-same-length c = search needs
-
 returns-2 : tie.Need-returns-2
 returns-2 c =
     let p = c .before .before in
@@ -37,4 +31,4 @@ returns-2 c =
     put-here heavyLine (a .out .now) (a .at) (a .n) (a .packed .now) (room .0) (room .1) _ _ (p .put-heavy-line .ensures)
 
 pub write-heavy-line-spec : {M : Type 1} → statement M
-write-heavy-line-spec = tie.close (tie.spec has-room-requires returns put-heavy-line-requires same-length returns-2)
+write-heavy-line-spec = tie.close (tie.spec (λ c κs. search needs) returns put-heavy-line-requires (λ c. search needs) returns-2)

@@ -22,15 +22,6 @@ size : (d : tie.After-decimal-length) → let a = start d .args in length (a .pa
     → length (line d (unpack (a .k) (a .packed .now))) ≡ a .k + (d .decimal-length .result + 2)
 size d sized = let a = start d .args in prefix-size (a .k) (a .packed .now) (a .total) _ sized (d .decimal-length .ensures .0)
 
-decimal-length-requires : tie.Need-decimal-length-requires
-decimal-length-requires c κs = search needs
-
-add-rest : tie.Need-add-rest
-add-rest c = search needs
-
-has-room-requires : tie.Need-has-room-requires
-has-room-requires c κs = search needs
-
 returns : tie.Need-returns
 returns c =
     let d = c .before .before in
@@ -44,9 +35,6 @@ put-prefix-line-requires c κs =
     let a = start d .args in
     has-line-room (line d) (a .out .now) (a .at) (a .k) (a .packed .now) (d .decimal-length .result + 2) (size d) (sym (e .before .has-room .ensures) ∙ not-false _ (e .if1 .left))
 
-same-length : tie.Need-same-length
-same-length c = search needs
-
 returns-2 : tie.Need-returns-2
 returns-2 c =
     let p = c .before .before in
@@ -58,4 +46,6 @@ returns-2 c =
     put-here (line d) (a .out .now) (a .at) (a .k) (a .packed .now) (room .0) (room .1) _ _ (p .put-prefix-line .ensures)
 
 pub write-prefix-line-spec : {M : Type 1} → statement M
-write-prefix-line-spec = tie.close (tie.spec decimal-length-requires add-rest has-room-requires returns put-prefix-line-requires same-length returns-2)
+write-prefix-line-spec =
+    tie.close
+    (tie.spec (λ c κs. search needs) (λ c. search needs) (λ c κs. search needs) returns put-prefix-line-requires (λ c. search needs) returns-2)

@@ -17,9 +17,6 @@ start e = e .before .before .before
 stands : (e : tie.Else1) → let a = start e .args in hasLine (a .n) (a .at) (a .text .now) ≡ true
 stands e = sym (e .before .has-line .ensures) ∙ not-false _ (e .if1 .left)
 
-has-line-requires : tie.Need-has-line-requires
-has-line-requires c κs = search needs
-
 returns : tie.Need-returns
 unfolding packIn value
 returns c =
@@ -67,14 +64,5 @@ returns-2 c =
 pub read-line-spec : {M : Type 1} → statement M
 read-line-spec =
     tie.close
-    (tie.spec
-    has-line-requires
-    returns
-    read-string-requires
-    add-read-seed
-    add-read-seed-2
-    read-seed-requires
-    add-read-seed-3
-    add-read-seed-4
-    read-seed-requires-2
-    returns-2)
+    (tie.spec (λ c κs. search needs) returns read-string-requires add-read-seed add-read-seed-2 read-seed-requires add-read-seed-3 add-read-seed-4
+    read-seed-requires-2 returns-2)

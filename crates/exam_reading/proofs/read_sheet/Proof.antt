@@ -20,19 +20,10 @@ first c = sym (c .before .before .read-first-line .ensures .laid) ∙ laid c
 nothing : {b : Bool} {A B : Type 0} → (b ≡ false) × B → (b ≡ true → A) × (b ≡ false → B)
 nothing z = (λ q. absurd (false≢true (sym (z .0) ∙ q)), λ q. z .1)
 
-no-sheet-requires : tie.Need-no-sheet-requires
-no-sheet-requires c κs = search needs
-
 returns : tie.Need-returns
 returns c =
     let z = c .no-sheet .ensures in
     (z .0 ∙ sym (too-long (c .before .before .before .args .text .now) (c .before .if1 .taken)), nothing z)
-
-read-first-line-requires : tie.Need-read-first-line-requires
-read-first-line-requires c κs = search needs
-
-no-sheet-requires-2 : tie.Need-no-sheet-requires-2
-no-sheet-requires-2 c κs = search needs
 
 returns-2 : tie.Need-returns-2
 returns-2 c =
@@ -42,9 +33,6 @@ returns-2 c =
       nothing z,
     )
 
-no-sheet-requires-3 : tie.Need-no-sheet-requires-3
-no-sheet-requires-3 c κs = search needs
-
 returns-3 : tie.Need-returns-3
 returns-3 c =
     let t = c .before .before .before .before .before .before .before .args .text .now in
@@ -53,9 +41,6 @@ returns-3 c =
       z .0 ∙ sym (too-wide t (omega arith) (first (c .before .before)) _ _ _ _ _ (r .ensures .says (laid (c .before .before))) (c .before .if3 .taken)),
       nothing z,
     )
-
-no-sheet-requires-4 : tie.Need-no-sheet-requires-4
-no-sheet-requires-4 c κs = search needs
 
 returns-4 : tie.Need-returns-4
 returns-4 c =
@@ -71,9 +56,6 @@ returns-4 c =
 are-lines-requires : tie.Need-are-lines-requires
 are-lines-requires c κs = (c .before .before .before .before .read-first-line .ensures .says (laid (c .before .before)) .rest .within, omega arith, omega arith)
 
-no-sheet-requires-5 : tie.Need-no-sheet-requires-5
-no-sheet-requires-5 c κs = search needs
-
 returns-5 : tie.Need-returns-5
 returns-5 c =
     let t = c .before .before .before .before .before .before .before .before .before .before .args .text .now in
@@ -86,12 +68,6 @@ returns-5 c =
           ∙ not-true _ (c .before .if5 .taken)),
       nothing z,
     )
-
-cast-t9 : tie.Need-cast-t9
-cast-t9 c = search needs
-
-cast-t11 : tie.Need-cast-t11
-cast-t11 c = search needs
 
 returns-6 : tie.Need-returns-6
 returns-6 c =
@@ -108,19 +84,5 @@ returns-6 c =
 pub read-sheet-spec : {M : Type 1} → statement M
 read-sheet-spec =
     tie.close
-    (tie.spec
-    no-sheet-requires
-    returns
-    read-first-line-requires
-    no-sheet-requires-2
-    returns-2
-    no-sheet-requires-3
-    returns-3
-    no-sheet-requires-4
-    returns-4
-    are-lines-requires
-    no-sheet-requires-5
-    returns-5
-    cast-t9
-    cast-t11
-    returns-6)
+    (tie.spec (λ c κs. search needs) returns (λ c κs. search needs) (λ c κs. search needs) returns-2 (λ c κs. search needs) returns-3
+    (λ c κs. search needs) returns-4 are-lines-requires (λ c κs. search needs) returns-5 (λ c. search needs) (λ c. search needs) returns-6)

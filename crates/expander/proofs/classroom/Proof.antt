@@ -5,30 +5,6 @@ use borrow.Author.Needs.{needs}
 use Rattle.expander.proofs.classroom.Statement.{statement}
 use Rattle.expander.proofs.classroom.Tie as tie
 
-slice-aggregate-read-le8 : tie.Need-slice-aggregate-read-le8
-slice-aggregate-read-le8 c = search needs
-
-read-le8-requires : tie.Need-read-le8-requires
-read-le8-requires c κs = search needs
-
-slice-aggregate-read-le8-2 : tie.Need-slice-aggregate-read-le8-2
-slice-aggregate-read-le8-2 c = search needs
-
-read-le8-requires-2 : tie.Need-read-le8-requires-2
-read-le8-requires-2 c κs = search needs
-
-wrapping-add-u64-requires : tie.Need-wrapping-add-u64-requires
-wrapping-add-u64-requires c κs = search needs
-
-wrapping-add-u64-requires-2 : tie.Need-wrapping-add-u64-requires-2
-wrapping-add-u64-requires-2 c κs = search needs
-
-wrapping-add-u64-requires-3 : tie.Need-wrapping-add-u64-requires-3
-wrapping-add-u64-requires-3 c κs = search needs
-
-join-requires : tie.Need-join-requires
-join-requires c κs = search needs
-
 returns : tie.Need-returns
 returns c =
     let w = c .before .before .before in
@@ -41,13 +17,5 @@ returns c =
 pub classroom-spec : {M : Type 1} → statement M
 classroom-spec =
     tie.close
-    (tie.spec
-    slice-aggregate-read-le8
-    read-le8-requires
-    slice-aggregate-read-le8-2
-    read-le8-requires-2
-    wrapping-add-u64-requires
-    wrapping-add-u64-requires-2
-    wrapping-add-u64-requires-3
-    join-requires
-    returns)
+    (tie.spec (λ c. search needs) (λ c κs. search needs) (λ c. search needs) (λ c κs. search needs) (λ c κs. search needs) (λ c κs. search needs)
+    (λ c κs. search needs) (λ c κs. search needs) returns)

@@ -5,14 +5,8 @@ use borrow.Author.Needs.{needs}
 use Rattle.expander.proofs.counter.Statement.{statement}
 use Rattle.expander.proofs.counter.Tie as tie
 
-slice-aggregate-write-be8 : tie.Need-slice-aggregate-write-be8
-slice-aggregate-write-be8 c = search needs
-
-write-be8-requires : tie.Need-write-be8-requires
-write-be8-requires c κs = search needs
-
 returns : tie.Need-returns
 returns c = c .before .write-be8 .ensures ∙ counted (c .before .before .before .args .j) (search needs)
 
 pub counter-spec : {M : Type 1} → statement M
-counter-spec = tie.close (tie.spec slice-aggregate-write-be8 write-be8-requires returns)
+counter-spec = tie.close (tie.spec (λ c. search needs) (λ c κs. search needs) returns)

@@ -9,29 +9,10 @@ use borrow.Author.Needs.{needs}
 use Rattle.expander.proofs.join.Statement.{statement}
 use Rattle.expander.proofs.join.Tie as tie
 
-slice-aggregate-write-le8 : tie.Need-slice-aggregate-write-le8
-slice-aggregate-write-le8 c = search needs
-
-write-le8-requires : tie.Need-write-le8-requires
-write-le8-requires c κs = search needs
-
-slice-aggregate-write-le8-2 : tie.Need-slice-aggregate-write-le8-2
-slice-aggregate-write-le8-2 c = search needs
-
-write-le8-requires-2 : tie.Need-write-le8-requires-2
-write-le8-requires-2 c κs = search needs
-
 returns : tie.Need-returns
 returns c =
     let a = c .before .before .before .before .before .before .args in
     c .before .write-le82 .ensures ∙ ap (λ (l : List ℕ). putAt l 8 (little 8 (a .second))) (c .before .before .before .before .write-le8 .ensures) ∙ joined (a .first) (a .second)
 
 pub join-spec : {M : Type 1} → statement M
-join-spec =
-    tie.close
-    (tie.spec
-    slice-aggregate-write-le8
-    write-le8-requires
-    slice-aggregate-write-le8-2
-    write-le8-requires-2
-    returns)
+join-spec = tie.close (tie.spec (λ c. search needs) (λ c κs. search needs) (λ c. search needs) (λ c κs. search needs) returns)

@@ -6,15 +6,6 @@ use borrow.Author.Needs.{needs}
 use Rattle.group.proofs.add.Statement.{statement}
 use Rattle.group.proofs.add.Tie as tie
 
-reduce-requires : tie.Need-reduce-requires
-reduce-requires c κs = search needs
-
-reduce-requires-2 : tie.Need-reduce-requires-2
-reduce-requires-2 c κs = search needs
-
-add-below-requires : tie.Need-add-below-requires
-add-below-requires c κs = search needs
-
 returns : tie.Need-returns
 returns c = (
   c .add-below .ensures .0 ∙ ap₂ (field .add) (c .before .before .reduce .ensures .0) (c .before .reduce2 .ensures .0) ∙ sym (add-mod _ _ p),
@@ -22,4 +13,4 @@ returns c = (
 )
 
 pub add-spec : {M : Type 1} → statement M
-add-spec = tie.close (tie.spec reduce-requires reduce-requires-2 add-below-requires returns)
+add-spec = tie.close (tie.spec (λ c κs. search needs) (λ c κs. search needs) (λ c κs. search needs) returns)

@@ -12,21 +12,6 @@ fits c =
     let w = c .before .before .weight in
     byte-fits (c .before .before .before .args .old) (w .result) (c .before .bit .result + 2 * c .bit2 .result) (w .ensures .1) (w .ensures .2) (omega (arith, c .before .bit .ensures, c .bit2 .ensures))
 
-weight-requires : tie.Need-weight-requires
-weight-requires c κs = search needs
-
-bit-requires : tie.Need-bit-requires
-bit-requires c κs = search needs
-
-bit-requires-2 : tie.Need-bit-requires-2
-bit-requires-2 c κs = search needs
-
-mul-both : tie.Need-mul-both
-mul-both c = search needs
-
-add-both : tie.Need-add-both
-add-both c = search needs
-
 rem-result : tie.Need-rem-result
 rem-result c = c .before .before .weight .ensures .1
 
@@ -45,14 +30,5 @@ returns c = rw (c .before .before .weight .ensures .0, c .before .bit .ensures .
 pub control-byte-spec : {M : Type 1} → statement M
 control-byte-spec =
     tie.close
-    (tie.spec
-    weight-requires
-    bit-requires
-    bit-requires-2
-    mul-both
-    add-both
-    rem-result
-    mul-result
-    add-result
-    cast-result
-    returns)
+    (tie.spec (λ c κs. search needs) (λ c κs. search needs) (λ c κs. search needs) (λ c. search needs) (λ c. search needs) rem-result mul-result
+    add-result cast-result returns)

@@ -33,14 +33,8 @@ spare-right c = sym (c .before .spare-zero .ensures) ∙ not-false _ (c .if4 .le
 
 -- ---- the needs
 
-length-outside-requires : tie.Need-length-outside-requires
-length-outside-requires c κs = search needs
-
 returns : tie.Need-returns
 returns c = let h = sym (c .before .length-outside .ensures) ∙ c .if1 .taken in rw h
-
-is-expander-requires : tie.Need-is-expander-requires
-is-expander-requires c κs = search needs
 
 returns-2 : tie.Need-returns-2
 returns-2 c = let h = sym (c .before .is-expander .ensures) ∙ not-true _ (c .if2 .taken) in rw (length-right (c .before .before), h)
@@ -48,28 +42,16 @@ returns-2 c = let h = sym (c .before .is-expander .ensures) ∙ not-true _ (c .i
 cast-levels : tie.Need-cast-levels
 cast-levels c = let e = c .before .before in omega (arith, bounds mostBits (begin e .args .n) (length-right e) .1)
 
-wrong-lengths-requires : tie.Need-wrong-lengths-requires
-wrong-lengths-requires c κs = search needs
-
 returns-3 : tie.Need-returns-3
 returns-3 c =
     let h = sym (c .before .wrong-lengths .ensures) ∙ c .if3 .taken in
     rw (length-right (c .before .before .before .before), expander-right (c .before .before), h)
-
-cast-spare-zero : tie.Need-cast-spare-zero
-cast-spare-zero c = search needs
-
-spare-zero-requires : tie.Need-spare-zero-requires
-spare-zero-requires c κs = search needs
 
 returns-4 : tie.Need-returns-4
 returns-4 c =
     let h = sym (c .before .spare-zero .ensures) ∙ not-true _ (c .if4 .taken) in
     let e = c .before .before in
     rw (length-right (e .before .before .before .before), expander-right (e .before .before), lengths-right e, h)
-
-public-share-length-requires : tie.Need-public-share-length-requires
-public-share-length-requires c κs = search needs
 
 returns-5 : tie.Need-returns-5
 returns-5 c =
@@ -86,17 +68,5 @@ returns-6 c =
 pub key-cause-spec : {M : Type 1} → statement M
 key-cause-spec =
     tie.close
-    (tie.spec
-    length-outside-requires
-    returns
-    is-expander-requires
-    returns-2
-    cast-levels
-    wrong-lengths-requires
-    returns-3
-    cast-spare-zero
-    spare-zero-requires
-    returns-4
-    public-share-length-requires
-    returns-5
-    returns-6)
+    (tie.spec (λ c κs. search needs) returns (λ c κs. search needs) returns-2 cast-levels (λ c κs. search needs) returns-3 (λ c. search needs)
+    (λ c κs. search needs) returns-4 (λ c κs. search needs) returns-5 returns-6)

@@ -22,9 +22,6 @@ clear c =
     let a = c .before .before .before .before .before .before .args in
     ready (a .n) (a .expander) (a .string .now) (a .seed0 .now) (a .seed1 .now) (length (a .out .now)) (due-number (a .n) (a .expander) (a .string .now) (a .seed0 .now) (a .seed1 .now) (length (a .out .now)) ∙ sym (c .before .key-cause .ensures) ∙ c .if1 .left)
 
-key-cause-requires : tie.Need-key-cause-requires
-key-cause-requires c κs = search needs
-
 returns : tie.Need-returns
 returns c =
     let a = c .before .before .before .before .before .before .args in
@@ -32,22 +29,10 @@ returns c =
     let w = nothing-written (a .n) (a .expander) (a .string .now) (a .seed0 .now) (a .seed1 .now) (length (a .out .now)) (λ q. c .if1 .taken (k ∙ q)) in
     exit-equal k (sym (ap length w)) (sym (ap (λ (v : List ℕ). overlay v (a .out .now)) w ∙ overlay-nil (a .out .now)))
 
-choose-requires : tie.Need-choose-requires
-choose-requires c κs = search needs
-
-enum-known-e : tie.Need-enum-known-e
-enum-known-e c = search needs
-
 cast-levels : tie.Need-cast-levels
 cast-levels c =
     let r = clear (c .before .before .before .before) in
     omega (arith, r .few)
-
-read16-requires : tie.Need-read16-requires
-read16-requires c κs = search needs
-
-read16-requires-2 : tie.Need-read16-requires-2
-read16-requires-2 c κs = search needs
 
 write-key-requires : tie.Need-write-key-requires
 write-key-requires c κs =
@@ -57,15 +42,6 @@ write-key-requires c κs =
       rw (c .before .before .read16 .ensures) (window-bytes 16 0 (a .seed0 .now) (λ i. c .before .before .before .before .before .before .before .before .before .before .before .shared-slice-known2 .given i .fits)),
       rw (c .before .read162 .ensures) (window-bytes 16 0 (a .seed1 .now) (λ i. c .before .before .before .before .before .before .before .before .before .before .shared-slice-known3 .given i .fits)),
     )
-
-public-share-length-requires : tie.Need-public-share-length-requires
-public-share-length-requires c κs = search needs
-
-enum-told : tie.Need-enum-told
-enum-told c = search needs
-
-same-length : tie.Need-same-length
-same-length c = search needs
 
 returns-2 : tie.Need-returns-2
 returns-2 c =
@@ -91,17 +67,5 @@ returns-3 c =
 pub make-key-spec : {M : Type 1} → statement M
 make-key-spec =
     tie.close
-    (tie.spec
-    key-cause-requires
-    returns
-    choose-requires
-    enum-known-e
-    cast-levels
-    read16-requires
-    read16-requires-2
-    write-key-requires
-    public-share-length-requires
-    enum-told
-    same-length
-    returns-2
-    returns-3)
+    (tie.spec (λ c κs. search needs) returns (λ c κs. search needs) (λ c. search needs) cast-levels (λ c κs. search needs) (λ c κs. search needs)
+    write-key-requires (λ c κs. search needs) (λ c. search needs) (λ c. search needs) returns-2 returns-3)

@@ -13,18 +13,6 @@ use borrow.Author.Needs.{needs}
 use Rattle.keymaker.proofs.put_word.Statement.{statement}
 use Rattle.keymaker.proofs.put_word.Tie as tie
 
-add-payload-at : tie.Need-add-payload-at
-add-payload-at c = search needs
-
-write16-requires : tie.Need-write16-requires
-write16-requires c κs = search needs
-
-write-le8-requires : tie.Need-write-le8-requires
-write-le8-requires c κs = search needs
-
-same-length : tie.Need-same-length
-same-length c = search needs
-
 returns : tie.Need-returns
 unfolding levelBytes
 returns c =
@@ -36,5 +24,4 @@ returns c =
     ∙ putAt-more (a .out .now) (a .at) (a .word .seed) number (omega (arith, little-length 8 (a .word .payload), c .before .before .before .before .before .before .before .before .before .before .pre))
 
 pub put-word-spec : {M : Type 1} → statement M
-put-word-spec =
-    tie.close (tie.spec add-payload-at write16-requires write-le8-requires same-length returns)
+put-word-spec = tie.close (tie.spec (λ c. search needs) (λ c κs. search needs) (λ c κs. search needs) (λ c. search needs) returns)

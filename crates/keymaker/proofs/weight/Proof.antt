@@ -6,15 +6,6 @@ use borrow.Author.Needs.{needs}
 use Rattle.keymaker.proofs.weight.Statement.{statement}
 use Rattle.keymaker.proofs.weight.Tie as tie
 
-mul-result : tie.Need-mul-result
-mul-result c = search needs
-
-cast-result : tie.Need-cast-result
-cast-result c = search needs
-
-shl-result : tie.Need-shl-result
-shl-result c = search needs
-
 returns : tie.Need-returns
 returns c =
     let place = 2 * (c .args .k % 4) in
@@ -22,4 +13,4 @@ returns c =
     (omega arith, omega (arith, pow-pos place), omega arith)
 
 pub weight-spec : {M : Type 1} → statement M
-weight-spec = tie.close (tie.spec mul-result cast-result shl-result returns)
+weight-spec = tie.close (tie.spec (λ c. search needs) (λ c. search needs) (λ c. search needs) returns)

@@ -20,31 +20,13 @@ abbrev μ-loop : tie.MeasureT-loop
 loop-holds : tie.Need-loop-holds Inv-loop μ-loop
 loop-holds c = let a = c .before .before .args in standing-start (a .e) (a .n) (a .string .now) (a .seed0) (a .seed1) (a .out .now)
 
-cast-bit-at : tie.Need-cast-bit-at Inv-loop μ-loop
-cast-bit-at c = omega arith
-
-bit-at-requires : tie.Need-bit-at-requires Inv-loop μ-loop
-bit-at-requires c κs = search needs
-
-next-level-requires : tie.Need-next-level-requires Inv-loop μ-loop
-next-level-requires c κs = search needs
-
 put-control-requires : tie.Need-put-control-requires Inv-loop μ-loop
 put-control-requires c κs = omega (arith, c .before .before .before .before .before .loop .inv .written .size, c .before .before .before .before .before .before .before .before .pre .0, c .before .before .before .before .loop-test .taken)
-
-level-start-requires : tie.Need-level-start-requires Inv-loop μ-loop
-level-start-requires c κs = search needs
 
 put-word-requires : tie.Need-put-word-requires Inv-loop μ-loop
 put-word-requires c κs =
     let size : length (c .before .before .before .before .put-control .last .0) ≡ length (c .before .before .before .before .before .before .before .before .before .before .loop .out) = ap length (c .before .before .before .before .put-control .ensures) ∙ simp length-set in
     omega (arith, c .level-start .ensures, c .before .before .before .before .before .before .before .before .before .before .loop .inv .written .size, c .before .before .before .before .before .before .before .before .before .before .before .before .before .pre .0, c .before .before .before .before .before .before .before .before .before .loop-test .taken)
-
-add-k : tie.Need-add-k Inv-loop μ-loop
-add-k c = omega arith
-
-loop-less : tie.Need-loop-less Inv-loop μ-loop
-loop-less c = omega arith
 
 loop-again : tie.Need-loop-again Inv-loop μ-loop
 loop-again c =
@@ -72,18 +54,5 @@ returns c =
 pub write-key-spec : {M : Type 1} → statement M
 write-key-spec =
     tie.close
-    (tie.spec
-    Inv-loop
-    μ-loop
-    loop-holds
-    cast-bit-at
-    bit-at-requires
-    next-level-requires
-    put-control-requires
-    level-start-requires
-    put-word-requires
-    add-k
-    loop-less
-    loop-again
-    same-length
-    returns)
+    (tie.spec Inv-loop μ-loop loop-holds (λ c. omega arith) (λ c κs. search needs) (λ c κs. search needs) put-control-requires (λ c κs. search needs)
+    put-word-requires (λ c. omega arith) (λ c. omega arith) loop-again same-length returns)

@@ -7,9 +7,6 @@ use borrow.Author.Needs.{needs}
 use Rattle.keymaker.proofs.wrong_lengths.Statement.{statement}
 use Rattle.keymaker.proofs.wrong_lengths.Tie as tie
 
-packed-length-requires : tie.Need-packed-length-requires
-packed-length-requires c κs = search needs
-
 returns : tie.Need-returns
 returns c =
     let a = c .before .before .before .before .before .args in
@@ -26,4 +23,4 @@ returns-3 c =
     rw (eq-eqb (length (a .string .now)) (packedLength (a .n)) (c .before .if1 .left ∙ c .before .before .packed-length .ensures), eq-eqb (length (a .seed0 .now)) 16 (c .if2 .left))
 
 pub wrong-lengths-spec : {M : Type 1} → statement M
-wrong-lengths-spec = tie.close (tie.spec packed-length-requires returns returns-2 returns-3)
+wrong-lengths-spec = tie.close (tie.spec (λ c κs. search needs) returns returns-2 returns-3)

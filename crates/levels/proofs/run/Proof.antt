@@ -15,18 +15,6 @@ start r = r .before .before .before .before .before .before .before .before .bef
 abbrev total : tie.Start → Bits → ℕ
 total s = let a = s .args in totalOf (a .e) (a .last + 1) (a .seeds0 .now) (a .shares0 .now) (a .seeds1 .now) (a .shares1 .now)
 
-add-n : tie.Need-add-n
-add-n c = search needs
-
-all-levels-requires : tie.Need-all-levels-requires
-all-levels-requires c κs = search needs
-
-same-length : tie.Need-same-length
-same-length c = search needs
-
-same-length-2 : tie.Need-same-length-2
-same-length-2 c = search needs
-
 returns : tie.Need-returns
 unfolding ending
 returns c =
@@ -34,15 +22,6 @@ returns c =
     let s = start r in
     let a = s .args in
     all-closed (reachesBy (a .rule)) (total s) (length (a .seeds0 .now) / 16) (a .last + 1) (a .area .now) (a .list .now) _ _ _ _ _ (r .all-levels .ensures) (c .if1 .taken)
-
-clear-requires : tie.Need-clear-requires
-clear-requires c κs = search needs
-
-same-length-3 : tie.Need-same-length-3
-same-length-3 c = search needs
-
-same-length-4 : tie.Need-same-length-4
-same-length-4 c = search needs
 
 returns-2 : tie.Need-returns-2
 unfolding ending
@@ -58,13 +37,5 @@ returns-2 c =
 pub run-spec : {M : Type 1} → statement M
 run-spec =
     tie.close
-    (tie.spec
-    add-n
-    all-levels-requires
-    same-length
-    same-length-2
-    returns
-    clear-requires
-    same-length-3
-    same-length-4
-    returns-2)
+    (tie.spec (λ c. search needs) (λ c κs. search needs) (λ c. search needs) (λ c. search needs) returns (λ c κs. search needs) (λ c. search needs)
+    (λ c. search needs) returns-2)

@@ -9,15 +9,6 @@ use borrow.Author.Needs.{needs}
 use Rattle.nodes.proofs.draw.Statement.{statement}
 use Rattle.nodes.proofs.draw.Tie as tie
 
-slice-aggregate-read-le8 : tie.Need-slice-aggregate-read-le8
-slice-aggregate-read-le8 c = search needs
-
-read-le8-requires : tie.Need-read-le8-requires
-read-le8-requires c κs = search needs
-
-reduce-requires : tie.Need-reduce-requires
-reduce-requires c κs = search needs
-
 returns : tie.Need-returns
 returns c =
     let s = c .before .before .before in (
@@ -26,4 +17,4 @@ returns c =
     )
 
 pub draw-spec : {M : Type 1} → statement M
-draw-spec = tie.close (tie.spec slice-aggregate-read-le8 read-le8-requires reduce-requires returns)
+draw-spec = tie.close (tie.spec (λ c. search needs) (λ c κs. search needs) (λ c κs. search needs) returns)

@@ -14,9 +14,6 @@ use Rattle.numbers.proofs.read_be2.Tie as tie
 room : (c : tie.Else1) → c .before .before .before .args .at + 2 ≤ length (now (c .before .before .before .args .s))
 room c = inside _ _ _ _ (c .before .within .ensures) (c .if1 .left)
 
-within-requires : tie.Need-within-requires
-within-requires c κs = search needs
-
 returns : tie.Need-returns
 returns c =
     let a = c .before .before .before .args in
@@ -25,23 +22,11 @@ returns c =
 shared-slice-read-wide : tie.Need-shared-slice-read-wide
 shared-slice-read-wide c = omega (arith, room (c .before))
 
-wide-requires : tie.Need-wide-requires
-wide-requires c κs = search needs
-
 add-wide : tie.Need-add-wide
 add-wide c = omega (arith, room (c .before .before))
 
 shared-slice-read-wide-2 : tie.Need-shared-slice-read-wide-2
 shared-slice-read-wide-2 c = omega (arith, room (c .before .before .before))
-
-wide-requires-2 : tie.Need-wide-requires-2
-wide-requires-2 c κs = search needs
-
-mul-result : tie.Need-mul-result
-mul-result c = search needs
-
-add-result : tie.Need-add-result
-add-result c = search needs
 
 returns-2 : tie.Need-returns-2
 unfolding fromBig
@@ -52,14 +37,5 @@ returns-2 c =
 pub read-be2-spec : {M : Type 1} → statement M
 read-be2-spec =
     tie.close
-    (tie.spec
-    within-requires
-    returns
-    shared-slice-read-wide
-    wide-requires
-    add-wide
-    shared-slice-read-wide-2
-    wide-requires-2
-    mul-result
-    add-result
-    returns-2)
+    (tie.spec (λ c κs. search needs) returns shared-slice-read-wide (λ c κs. search needs) add-wide shared-slice-read-wide-2 (λ c κs. search needs)
+    (λ c. search needs) (λ c. search needs) returns-2)

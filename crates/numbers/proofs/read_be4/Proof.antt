@@ -13,28 +13,13 @@ use Rattle.numbers.proofs.read_be4.Tie as tie
 room : (c : tie.Else1) → c .before .before .before .args .at + 4 ≤ length (now (c .before .before .before .args .s))
 room c = inside _ _ _ _ (c .before .within .ensures) (c .if1 .left)
 
-within-requires : tie.Need-within-requires
-within-requires c κs = search needs
-
 returns : tie.Need-returns
 returns c =
     let a = c .before .before .before .args in
     (big-outside 4 (a .at) (now (a .s)) (outside _ _ _ _ (c .before .within .ensures) (c .if1 .taken)), omega arith)
 
-read-be2-requires : tie.Need-read-be2-requires
-read-be2-requires c κs = search needs
-
 add-read-be2 : tie.Need-add-read-be2
 add-read-be2 c = omega (arith, room (c .before))
-
-read-be2-requires-2 : tie.Need-read-be2-requires-2
-read-be2-requires-2 c κs = search needs
-
-mul-result : tie.Need-mul-result
-mul-result c = search needs
-
-add-result : tie.Need-add-result
-add-result c = search needs
 
 returns-2 : tie.Need-returns-2
 returns-2 c =
@@ -44,12 +29,5 @@ returns-2 c =
 pub read-be4-spec : {M : Type 1} → statement M
 read-be4-spec =
     tie.close
-    (tie.spec
-    within-requires
-    returns
-    read-be2-requires
-    add-read-be2
-    read-be2-requires-2
-    mul-result
-    add-result
+    (tie.spec (λ c κs. search needs) returns (λ c κs. search needs) add-read-be2 (λ c κs. search needs) (λ c. search needs) (λ c. search needs)
     returns-2)

@@ -13,9 +13,6 @@ use Rattle.numbers.proofs.read_le8.Tie as tie
 room : (c : tie.Else1) → c .before .before .before .args .at + 8 ≤ length (now (c .before .before .before .args .s))
 room c = inside _ _ _ _ (c .before .within .ensures) (c .if1 .left)
 
-within-requires : tie.Need-within-requires
-within-requires c κs = search needs
-
 returns : tie.Need-returns
 returns c =
     let a = c .before .before .before .args in
@@ -30,12 +27,6 @@ add-le4 c = omega (arith, room (c .before))
 le4-requires-2 : tie.Need-le4-requires-2
 le4-requires-2 c κs = omega (arith, room (c .before))
 
-mul-result : tie.Need-mul-result
-mul-result c = search needs
-
-add-result : tie.Need-add-result
-add-result c = search needs
-
 returns-2 : tie.Need-returns-2
 returns-2 c =
     let a = c .before .before .before .before .before .args in
@@ -44,12 +35,4 @@ returns-2 c =
 pub read-le8-spec : {M : Type 1} → statement M
 read-le8-spec =
     tie.close
-    (tie.spec
-    within-requires
-    returns
-    le4-requires
-    add-le4
-    le4-requires-2
-    mul-result
-    add-result
-    returns-2)
+    (tie.spec (λ c κs. search needs) returns le4-requires add-le4 le4-requires-2 (λ c. search needs) (λ c. search needs) returns-2)

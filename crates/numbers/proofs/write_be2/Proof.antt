@@ -17,32 +17,20 @@ use Rattle.numbers.proofs.write_be2.Tie as tie
 room : (c : tie.Else1) → c .before .before .before .args .at + 2 ≤ length (now (c .before .before .before .args .out))
 room c = inside _ _ _ _ (c .before .within .ensures) (c .if1 .left)
 
-within-requires : tie.Need-within-requires
-within-requires c κs = search needs
-
 returns : tie.Need-returns
 unfolding big
 returns c =
     let a = c .before .before .before .args in
     sym (putAt-outside (now (a .out)) (a .at) (big 2 (a .x)) (outside _ _ _ _ (c .before .within .ensures) (c .if1 .taken)))
 
-cast-out : tie.Need-cast-out
-cast-out c = search needs
-
 slice-write-out : tie.Need-slice-write-out
 slice-write-out c = omega (arith, room c)
-
-cast-out-2 : tie.Need-cast-out-2
-cast-out-2 c = search needs
 
 add-out : tie.Need-add-out
 add-out c = omega (arith, room c)
 
 slice-write-out-2 : tie.Need-slice-write-out-2
 slice-write-out-2 c = simp length-set (omega (arith, room c))
-
-same-length : tie.Need-same-length
-same-length c = search needs
 
 returns-2 : tie.Need-returns-2
 unfolding big
@@ -53,13 +41,5 @@ returns-2 c =
 pub write-be2-spec : {M : Type 1} → statement M
 write-be2-spec =
     tie.close
-    (tie.spec
-    within-requires
-    returns
-    cast-out
-    slice-write-out
-    cast-out-2
-    add-out
-    slice-write-out-2
-    same-length
+    (tie.spec (λ c κs. search needs) returns (λ c. search needs) slice-write-out (λ c. search needs) add-out slice-write-out-2 (λ c. search needs)
     returns-2)

@@ -16,26 +16,14 @@ use Rattle.numbers.proofs.write_be4.Tie as tie
 room : (c : tie.Else1) → c .before .before .before .args .at + 4 ≤ length (now (c .before .before .before .args .out))
 room c = inside _ _ _ _ (c .before .within .ensures) (c .if1 .left)
 
-within-requires : tie.Need-within-requires
-within-requires c κs = search needs
-
 returns : tie.Need-returns
 unfolding big
 returns c =
     let a = c .before .before .before .args in
     sym (putAt-outside (now (a .out)) (a .at) (big 4 (a .x)) (outside _ _ _ _ (c .before .within .ensures) (c .if1 .taken)))
 
-write-be2-requires : tie.Need-write-be2-requires
-write-be2-requires c κs = search needs
-
 add-write-be2 : tie.Need-add-write-be2
 add-write-be2 c = omega (arith, room (c .before .before .before .before .before))
-
-write-be2-requires-2 : tie.Need-write-be2-requires-2
-write-be2-requires-2 c κs = search needs
-
-same-length : tie.Need-same-length
-same-length c = search needs
 
 returns-2 : tie.Need-returns-2
 returns-2 c =
@@ -46,11 +34,4 @@ returns-2 c =
 pub write-be4-spec : {M : Type 1} → statement M
 write-be4-spec =
     tie.close
-    (tie.spec
-    within-requires
-    returns
-    write-be2-requires
-    add-write-be2
-    write-be2-requires-2
-    same-length
-    returns-2)
+    (tie.spec (λ c κs. search needs) returns (λ c κs. search needs) add-write-be2 (λ c κs. search needs) (λ c. search needs) returns-2)

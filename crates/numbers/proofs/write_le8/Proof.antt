@@ -16,9 +16,6 @@ use Rattle.numbers.proofs.write_le8.Tie as tie
 room : (c : tie.Else1) → c .before .before .before .args .at + 8 ≤ length (now (c .before .before .before .args .out))
 room c = inside _ _ _ _ (c .before .within .ensures) (c .if1 .left)
 
-within-requires : tie.Need-within-requires
-within-requires c κs = search needs
-
 returns : tie.Need-returns
 unfolding little
 returns c =
@@ -34,9 +31,6 @@ add-put-le4 c = omega (arith, room (c .before .before .before .before .before))
 put-le4-requires-2 : tie.Need-put-le4-requires-2
 put-le4-requires-2 c κs = omega (arith, room (c .before .before .before .before .before))
 
-same-length : tie.Need-same-length
-same-length c = search needs
-
 returns-2 : tie.Need-returns-2
 returns-2 c =
     let a = c .before .before .before .before .before .before .before .before .before .before .before .args in
@@ -44,13 +38,4 @@ returns-2 c =
     put-little-halves 4 (a .at) (now (a .out)) (room (c .before .before .before .before .before .before .before .before)) _ _ (a .x) (first .ensures) (c .before .before .put-le42 .ensures)
 
 pub write-le8-spec : {M : Type 1} → statement M
-write-le8-spec =
-    tie.close
-    (tie.spec
-    within-requires
-    returns
-    put-le4-requires
-    add-put-le4
-    put-le4-requires-2
-    same-length
-    returns-2)
+write-le8-spec = tie.close (tie.spec (λ c κs. search needs) returns put-le4-requires add-put-le4 put-le4-requires-2 (λ c. search needs) returns-2)

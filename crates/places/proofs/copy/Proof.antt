@@ -22,9 +22,6 @@ abbrev μ-loop : tie.MeasureT-loop
 room : (c : tie.Else1 Inv-loop μ-loop) → c .before .before .before .before .args .at + length (now (c .before .before .before .before .args .src)) ≤ length (now (c .before .before .before .before .args .out))
 room c = inside _ _ _ _ (c .before .within .ensures) (c .if1 .left)
 
-within-requires : tie.Need-within-requires Inv-loop μ-loop
-within-requires c κs = search needs
-
 returns : tie.Need-returns Inv-loop μ-loop
 returns c =
     let a = c .before .before .before .before .args in
@@ -35,20 +32,11 @@ loop-holds c =
     let a = c .before .before .before .before .args in
     (omega arith, refl, paste-zero (a .out .now) (a .at) (a .src .now))
 
-shared-slice-read-out : tie.Need-shared-slice-read-out Inv-loop μ-loop
-shared-slice-read-out c = omega arith
-
 add-out : tie.Need-add-out Inv-loop μ-loop
 add-out c = omega (arith, room (c .before .before .before))
 
 slice-write-out : tie.Need-slice-write-out Inv-loop μ-loop
 slice-write-out c = omega (arith, room (c .before .before .before))
-
-add-i : tie.Need-add-i Inv-loop μ-loop
-add-i c = omega arith
-
-loop-less : tie.Need-loop-less Inv-loop μ-loop
-loop-less c = omega arith
 
 loop-again : tie.Need-loop-again Inv-loop μ-loop
 loop-again c =
@@ -58,9 +46,6 @@ loop-again c =
       simp length-set (l .inv .1),
       rw (l .inv .2, add-one (l .i)) (paste-suc (a .out .now) (a .at) (a .src .now) (l .i) 0 (omega (arith, room (c .before .before .before))) (omega arith)),
     )
-
-same-length : tie.Need-same-length Inv-loop μ-loop
-same-length c = omega arith
 
 returns-2 : tie.Need-returns-2 Inv-loop μ-loop
 returns-2 c =
@@ -72,17 +57,5 @@ returns-2 c =
 pub copy-spec : {M : Type 1} → statement M
 copy-spec =
     tie.close
-    (tie.spec
-    Inv-loop
-    μ-loop
-    within-requires
-    returns
-    loop-holds
-    shared-slice-read-out
-    add-out
-    slice-write-out
-    add-i
-    loop-less
-    loop-again
-    same-length
-    returns-2)
+    (tie.spec Inv-loop μ-loop (λ c κs. search needs) returns loop-holds (λ c. omega arith) add-out slice-write-out (λ c. omega arith)
+    (λ c. omega arith) loop-again (λ c. omega arith) returns-2)

@@ -14,9 +14,6 @@ use Rattle.places.proofs.read16.Tie as tie
 room : (c : tie.Else1) → c .before .before .before .args .at + 16 ≤ length (now (c .before .before .before .args .s))
 room c = inside _ _ _ _ (c .before .within .ensures) (c .if1 .left)
 
-within-requires : tie.Need-within-requires
-within-requires c κs = search needs
-
 returns : tie.Need-returns
 returns c =
     let a = c .before .before .before .args in
@@ -25,20 +22,8 @@ returns c =
 add-end : tie.Need-add-end
 add-end c = omega (arith, room c)
 
-sub-copy : tie.Need-sub-copy
-sub-copy c = search needs
-
-part-copy-start : tie.Need-part-copy-start
-part-copy-start c = search needs
-
 part-copy-end : tie.Need-part-copy-end
 part-copy-end c = omega (arith, room c)
-
-slice-aggregate-copy : tie.Need-slice-aggregate-copy
-slice-aggregate-copy c = search needs
-
-copy-requires : tie.Need-copy-requires
-copy-requires c κs = search needs
 
 returns-2 : tie.Need-returns-2
 returns-2 c =
@@ -52,13 +37,5 @@ returns-2 c =
 pub read16-spec : {M : Type 1} → statement M
 read16-spec =
     tie.close
-    (tie.spec
-    within-requires
-    returns
-    add-end
-    sub-copy
-    part-copy-start
-    part-copy-end
-    slice-aggregate-copy
-    copy-requires
+    (tie.spec (λ c κs. search needs) returns add-end (λ c. search needs) (λ c. search needs) part-copy-end (λ c. search needs) (λ c κs. search needs)
     returns-2)

@@ -23,12 +23,6 @@ left c =
     counted (a .n) (len .result) (m .result) (a .q .now) (len .ensures .0) (m .ensures .0) (omega arith) (omega arith) (omega arith)
     (c .packed-length .result) (c .packed-length .ensures)
 
-prefix-length-requires : tie.Need-prefix-length-requires
-prefix-length-requires c κs = search needs
-
-prefix-count-requires : tie.Need-prefix-count-requires
-prefix-count-requires c κs = search needs
-
 returns : tie.Need-returns
 returns c =
     let a = c .before .before .before .before .args in
@@ -50,9 +44,6 @@ returns-3 c =
     let m = c .before .before .before .prefix-count in
     sym (too-many (a .n) (len .result) (m .result) (a .q .now) (len .ensures .0) (m .ensures .0) (omega arith) (omega arith) (omega arith))
 
-packed-length-requires : tie.Need-packed-length-requires
-packed-length-requires c κs = search needs
-
 mul-if4 : tie.Need-mul-if4
 mul-if4 c = omega (arith, few c)
 
@@ -61,9 +52,6 @@ add-if4 c = omega (arith, few c)
 
 returns-4 : tie.Need-returns-4
 returns-4 c = sym (other-length (left (c .before)) (λ e. omega arith))
-
-spares-zero-requires : tie.Need-spares-zero-requires
-spares-zero-requires c κs = search needs
 
 returns-5 : tie.Need-returns-5
 returns-5 c =
@@ -82,17 +70,5 @@ returns-6 c =
 pub is-query-spec : {M : Type 1} → statement M
 is-query-spec =
     tie.close
-    (tie.spec
-    prefix-length-requires
-    prefix-count-requires
-    returns
-    returns-2
-    returns-3
-    packed-length-requires
-    mul-if4
-    add-if4
-    returns-4
-    spares-zero-requires
-    returns-5
-    in-order-requires
-    returns-6)
+    (tie.spec (λ c κs. search needs) (λ c κs. search needs) returns returns-2 returns-3 (λ c κs. search needs) mul-if4 add-if4 returns-4
+    (λ c κs. search needs) returns-5 in-order-requires returns-6)

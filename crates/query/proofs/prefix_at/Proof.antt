@@ -17,30 +17,12 @@ room c =
     let w = c .before .before .packed-length .result in
     omega (arith, part-ends (length (a .q .now) - 6) w (a .i) (omega arith) (omega arith))
 
-prefix-length-requires : tie.Need-prefix-length-requires
-prefix-length-requires c κs = search needs
-
-packed-length-requires : tie.Need-packed-length-requires
-packed-length-requires c κs = search needs
-
-slice-aggregate-result : tie.Need-slice-aggregate-result
-slice-aggregate-result c = search needs
-
 returns : tie.Need-returns
 returns c =
     let a = c .before .before .before .before .before .args in
     let len = c .before .before .before .prefix-length in
     let w = c .before .before .packed-length in
     sym (prefix-outside (a .q .now) (a .i) (len .result) (w .result) (len .ensures .0) (w .ensures) (omega arith))
-
-sub-if2 : tie.Need-sub-if2
-sub-if2 c = search needs
-
-div-if2 : tie.Need-div-if2
-div-if2 c = search needs
-
-slice-aggregate-result-2 : tie.Need-slice-aggregate-result-2
-slice-aggregate-result-2 c = search needs
 
 returns-2 : tie.Need-returns-2
 returns-2 c =
@@ -59,12 +41,6 @@ add-at c = omega (arith, room c)
 add-end : tie.Need-add-end
 add-end c = omega (arith, room c)
 
-sub-result : tie.Need-sub-result
-sub-result c = search needs
-
-part-result-start : tie.Need-part-result-start
-part-result-start c = search needs
-
 part-result-end : tie.Need-part-result-end
 part-result-end c = omega (arith, room c)
 
@@ -79,19 +55,5 @@ returns-3 c =
 pub prefix-at-spec : {M : Type 1} → statement M
 prefix-at-spec =
     tie.close
-    (tie.spec
-    prefix-length-requires
-    packed-length-requires
-    slice-aggregate-result
-    returns
-    sub-if2
-    div-if2
-    slice-aggregate-result-2
-    returns-2
-    mul-at
-    add-at
-    add-end
-    sub-result
-    part-result-start
-    part-result-end
-    returns-3)
+    (tie.spec (λ c κs. search needs) (λ c κs. search needs) (λ c. search needs) returns (λ c. search needs) (λ c. search needs) (λ c. search needs)
+    returns-2 mul-at add-at add-end (λ c. search needs) (λ c. search needs) part-result-end returns-3)

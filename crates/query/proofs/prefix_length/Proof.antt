@@ -6,11 +6,5 @@ use Rattle.query.proofs.prefix_length.Tie as tie
 read-be2-requires : tie.Need-read-be2-requires
 read-be2-requires c κs = tt
 
-add-result : tie.Need-add-result
-add-result c = omega arith
-
-returns : tie.Need-returns
-returns c = omega arith
-
 pub prefix-length-spec : {M : Type 1} → statement M
-prefix-length-spec = tie.close (tie.spec read-be2-requires add-result returns)
+prefix-length-spec = tie.close (tie.spec read-be2-requires (λ c. omega arith) (λ c. omega arith))

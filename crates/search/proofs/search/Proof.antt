@@ -22,17 +22,8 @@ lend f =
 clear : (c : tie.Else1) → numberDue (lentCauses (lend (c .before))) ≡ 0
 clear c = sym (c .before .first-cause .ensures) ∙ c .if1 .left
 
-first-cause-requires : tie.Need-first-cause-requires
-first-cause-requires c κs = search needs
-
 returns : tie.Need-returns
 returns c = refused (lend (c .before)) (c .before .first-cause .result) (c .before .first-cause .ensures) (c .if1 .taken)
-
-choose-requires : tie.Need-choose-requires
-choose-requires c κs = search needs
-
-enum-known-e : tie.Need-enum-known-e
-enum-known-e c = search needs
 
 sub-run : tie.Need-sub-run
 sub-run c =
@@ -43,18 +34,6 @@ cast-run : tie.Need-cast-run
 cast-run c =
     let i = c .before .before .before .before in
     omega (arith, within-bounds (lend (i .before)) (clear i))
-
-run-requires : tie.Need-run-requires
-run-requires c κs = search needs
-
-enum-told : tie.Need-enum-told
-enum-told c = search needs
-
-same-length : tie.Need-same-length
-same-length c = search needs
-
-same-length-2 : tie.Need-same-length-2
-same-length-2 c = search needs
 
 returns-2 : tie.Need-returns-2
 returns-2 c =
@@ -75,16 +54,5 @@ returns-3 c =
 pub search-spec : {M : Type 1} → statement M
 search-spec =
     tie.close
-    (tie.spec
-    first-cause-requires
-    returns
-    choose-requires
-    enum-known-e
-    sub-run
-    cast-run
-    run-requires
-    enum-told
-    same-length
-    same-length-2
-    returns-2
-    returns-3)
+    (tie.spec (λ c κs. search needs) returns (λ c κs. search needs) (λ c. search needs) sub-run cast-run (λ c κs. search needs) (λ c. search needs)
+    (λ c. search needs) (λ c. search needs) returns-2 returns-3)

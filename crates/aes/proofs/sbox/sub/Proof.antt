@@ -8,11 +8,8 @@ use borrow.Author.Needs.{needs}
 use Rattle.aes.proofs.sbox.sub.Statement.{statement}
 use Rattle.aes.proofs.sbox.sub.Tie as tie
 
-element-copy-out-result : tie.Need-element-copy-out-result
-element-copy-out-result c = search needs
-
 returns : tie.Need-returns
 returns c = ap (λ (l : List ℕ). getD l (c .before .args .x) 0) (c .before .pre) ∙ entry (c .before .args .x) (search needs)
 
 pub sub-spec : {M : Type 1} → statement M
-sub-spec = tie.close (tie.spec element-copy-out-result returns)
+sub-spec = tie.close (tie.spec (λ c. search needs) returns)

@@ -12,12 +12,6 @@ use Rattle.bits.proofs.Longer.{unit-pos, last-clear, last-set}
 use Rattle.bits.proofs.child.last_byte.Statement.{statement}
 use Rattle.bits.proofs.child.last_byte.Tie as tie
 
-shr-unit : tie.Need-shr-unit
-shr-unit c = search needs
-
-wide-requires : tie.Need-wide-requires
-wide-requires c κs = search needs
-
 rem-kept : tie.Need-rem-kept
 rem-kept c = unit-pos (c .before .args .rest) (omega arith)
 
@@ -45,9 +39,6 @@ cast-result c =
 returns : tie.Need-returns
 returns c = with-bit c
 
-cast-result-2 : tie.Need-cast-result-2
-cast-result-2 c = search needs
-
 returns-2 : tie.Need-returns-2
 returns-2 c =
     let a = c .before .before .args in
@@ -56,13 +47,4 @@ returns-2 c =
 pub last-byte-spec : {M : Type 1} → statement M
 last-byte-spec =
     tie.close
-    (tie.spec
-    shr-unit
-    wide-requires
-    rem-kept
-    sub-kept
-    add-result
-    cast-result
-    returns
-    cast-result-2
-    returns-2)
+    (tie.spec (λ c. search needs) (λ c κs. search needs) rem-kept sub-kept add-result cast-result returns (λ c. search needs) returns-2)

@@ -17,12 +17,6 @@ room : (c : tie.Else1)
     ≤ length (c .before .before .before .before .args .out .now)
 room c = inside _ _ _ _ (c .before .within .ensures) (c .if1 .left)
 
-add-end : tie.Need-add-end
-add-end c = search needs
-
-within-requires : tie.Need-within-requires
-within-requires c κs = search needs
-
 returns : tie.Need-returns
 returns c =
     let known = c .before .before .before in
@@ -31,19 +25,10 @@ returns c =
     child-outside (a .whole) (a .rest) (a .prefix .now) (a .bit) (λ i. omega (arith, known .shared-slice-known .given i))
     (s .pre .0) (omega arith) (a .out .now) (a .at) (outside _ _ _ _ (c .before .within .ensures) (c .if1 .taken))
 
-shared-slice-read-last-byte : tie.Need-shared-slice-read-last-byte
-shared-slice-read-last-byte c = search needs
-
-last-byte-requires : tie.Need-last-byte-requires
-last-byte-requires c κs = search needs
-
 slice-aggregate-copy : tie.Need-slice-aggregate-copy
 slice-aggregate-copy c =
     let s = c .before .before .before .before .before .before .before in
     sym (length-take-le (s .args .whole + 1) (s .args .prefix .now) (omega (arith, s .pre .1)))
-
-copy-requires : tie.Need-copy-requires
-copy-requires c κs = search needs
 
 add-out : tie.Need-add-out
 add-out c = omega (arith, room (c .before .before .before .before .before .before .before))
@@ -53,9 +38,6 @@ slice-write-out c =
     let fits = c .before .before .before .before .before .before .before in
     let a = fits .before .before .before .before .args in
     omega (arith, room fits, ap length (c .before .before .copy .ensures), putAt-length (a .out .now) (a .at) (take (a .whole + 1) (a .prefix .now)))
-
-same-length : tie.Need-same-length
-same-length c = search needs
 
 returns-2 : tie.Need-returns-2
 returns-2 c =
@@ -70,15 +52,5 @@ returns-2 c =
 pub put-child-spec : {M : Type 1} → statement M
 put-child-spec =
     tie.close
-    (tie.spec
-    add-end
-    within-requires
-    returns
-    shared-slice-read-last-byte
-    last-byte-requires
-    slice-aggregate-copy
-    copy-requires
-    add-out
-    slice-write-out
-    same-length
-    returns-2)
+    (tie.spec (λ c. search needs) (λ c κs. search needs) returns (λ c. search needs) (λ c κs. search needs) slice-aggregate-copy
+    (λ c κs. search needs) add-out slice-write-out (λ c. search needs) returns-2)

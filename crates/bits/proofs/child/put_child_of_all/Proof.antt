@@ -16,24 +16,12 @@ room : (c : tie.Else1)
     ≤ length (c .before .before .before .before .args .out .now)
 room c = inside _ _ _ _ (c .before .within .ensures) (c .if1 .left)
 
-add-within : tie.Need-add-within
-add-within c = search needs
-
-within-requires : tie.Need-within-requires
-within-requires c κs = search needs
-
 returns : tie.Need-returns
 returns c =
     let known = c .before .before .before in
     let a = known .before .args in
     all-outside (a .prefix .now) (a .bit) (λ i. omega (arith, known .shared-slice-known .given i))
     (a .out .now) (a .at) (outside _ _ _ _ (c .before .within .ensures) (c .if1 .taken))
-
-last-byte-requires : tie.Need-last-byte-requires
-last-byte-requires c κs = search needs
-
-copy-requires : tie.Need-copy-requires
-copy-requires c κs = search needs
 
 add-out : tie.Need-add-out
 add-out c = omega (arith, room (c .before .before .before .before .before))
@@ -43,9 +31,6 @@ slice-write-out c =
     let fits = c .before .before .before .before .before in
     let a = fits .before .before .before .before .args in
     omega (arith, room fits, ap length (c .before .before .copy .ensures), putAt-length (a .out .now) (a .at) (a .prefix .now))
-
-same-length : tie.Need-same-length
-same-length c = search needs
 
 returns-2 : tie.Need-returns-2
 returns-2 c =
@@ -59,13 +44,5 @@ returns-2 c =
 pub put-child-of-all-spec : {M : Type 1} → statement M
 put-child-of-all-spec =
     tie.close
-    (tie.spec
-    add-within
-    within-requires
-    returns
-    last-byte-requires
-    copy-requires
-    add-out
-    slice-write-out
-    same-length
-    returns-2)
+    (tie.spec (λ c. search needs) (λ c κs. search needs) returns (λ c κs. search needs) (λ c κs. search needs) add-out slice-write-out
+    (λ c. search needs) returns-2)

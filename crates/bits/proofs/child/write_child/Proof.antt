@@ -17,23 +17,11 @@ same-bits : (d : List ℕ) (at : ℕ) (s : List ℕ) (b : Bool) (len n : ℕ) (o
     → out ≡ putAt d at (pack (unpack len s ▹ b))
 same-bits d at s b len n out e f = e ∙ rw f
 
-put-child-of-all-requires : tie.Need-put-child-of-all-requires
-put-child-of-all-requires c κs = search needs
-
-same-length : tie.Need-same-length
-same-length c = search needs
-
 returns : tie.Need-returns
 returns c =
     let a = c .before .before .before .before .before .before .before .args in
     let s = unpack-all (a .len) (a .prefix .now) (omega arith) in
     c .before .before .put-child-of-all .ensures ∙ rw s
-
-put-child-requires : tie.Need-put-child-requires
-put-child-requires c κs = search needs
-
-same-length-2 : tie.Need-same-length-2
-same-length-2 c = search needs
 
 returns-2 : tie.Need-returns-2
 returns-2 c =
@@ -41,6 +29,4 @@ returns-2 c =
     same-bits (a .out .now) (a .at) (a .prefix .now) (a .bit) (a .len) _ _ (c .before .before .put-child .ensures) (omega arith)
 
 pub write-child-spec : {M : Type 1} → statement M
-write-child-spec =
-    tie.close
-    (tie.spec put-child-of-all-requires same-length returns put-child-requires same-length-2 returns-2)
+write-child-spec = tie.close (tie.spec (λ c κs. search needs) (λ c. search needs) returns (λ c κs. search needs) (λ c. search needs) returns-2)

@@ -4,17 +4,11 @@ use borrow.Author.Tests.{not-true, not-false}
 use Rattle.combine.proofs.checks.both_below.Statement.{statement}
 use Rattle.combine.proofs.checks.both_below.Tie as tie
 
-all-below-requires : tie.Need-all-below-requires
-all-below-requires c κs = search needs
-
 returns : tie.Need-returns
 returns c = let b = c .before .all-below in rw (← b .ensures, not-true (b .result) (c .if1 .taken))
-
-all-below-requires-2 : tie.Need-all-below-requires-2
-all-below-requires-2 c κs = search needs
 
 returns-2 : tie.Need-returns-2
 returns-2 c = let b = c .before .before .all-below in rw (← b .ensures, not-false (b .result) (c .before .if1 .left)) (c .all-below2 .ensures)
 
 pub both-below-spec : {M : Type 1} → statement M
-both-below-spec = tie.close (tie.spec all-below-requires returns all-below-requires-2 returns-2)
+both-below-spec = tie.close (tie.spec (λ c κs. search needs) returns (λ c κs. search needs) returns-2)

@@ -38,31 +38,16 @@ below c = sym (c .before .before .before .both-below .ensures) ∙ not-false _ (
 
 -- ---- the returns
 
-length-outside-requires : tie.Need-length-outside-requires
-length-outside-requires c κs = search needs
-
 returns : tie.Need-returns
 returns c =
     let a = c .before .before .before .before .before .args in
     cause-1 (a .n) (a .t) (a .query .now) (a .share0 .now) (a .share1 .now) (sym (c .before .length-outside .ensures) ∙ c .if1 .taken)
-
-threshold-outside-requires : tie.Need-threshold-outside-requires
-threshold-outside-requires c κs = search needs
 
 returns-2 : tie.Need-returns-2
 returns-2 c =
     let e₁ = c .before .before in
     let a = start₁ e₁ .args in
     cause-2 (a .n) (a .t) (a .query .now) (a .share0 .now) (a .share1 .now) (bounds e₁) (sym (c .before .threshold-outside .ensures) ∙ c .if2 .taken)
-
-is-query-requires : tie.Need-is-query-requires
-is-query-requires c κs = search needs
-
-both-below-requires : tie.Need-both-below-requires
-both-below-requires c κs = search needs
-
-wrong-shares-requires : tie.Need-wrong-shares-requires
-wrong-shares-requires c κs = search needs
 
 returns-3 : tie.Need-returns-3
 returns-3 c =
@@ -100,15 +85,5 @@ returns-6 c =
 pub first-cause-spec : {M : Type 1} → statement M
 first-cause-spec =
     tie.close
-    (tie.spec
-    length-outside-requires
-    returns
-    threshold-outside-requires
-    returns-2
-    is-query-requires
-    both-below-requires
-    wrong-shares-requires
-    returns-3
-    returns-4
-    returns-5
-    returns-6)
+    (tie.spec (λ c κs. search needs) returns (λ c κs. search needs) returns-2 (λ c κs. search needs) (λ c κs. search needs) (λ c κs. search needs)
+    returns-3 returns-4 returns-5 returns-6)

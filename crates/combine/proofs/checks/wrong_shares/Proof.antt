@@ -13,12 +13,6 @@ returns-2 c = rw (eq-eqb _ _ (c .before .if1 .left), ne-eqb _ _ (c .if2 .taken))
 returns-3 : tie.Need-returns-3
 returns-3 c = rw (eq-eqb _ _ (c .before .before .if1 .left), eq-eqb _ _ (c .before .if2 .left), not-true (c .before .before .before .before .before .before .args .passes) (c .if3 .taken))
 
-prefix-count-requires : tie.Need-prefix-count-requires
-prefix-count-requires c κs = search needs
-
-mul-result : tie.Need-mul-result
-mul-result c = search needs
-
 returns-4 : tie.Need-returns-4
 returns-4 c =
     rw (
@@ -29,4 +23,4 @@ returns-4 c =
     )
 
 pub wrong-shares-spec : {M : Type 1} → statement M
-wrong-shares-spec = tie.close (tie.spec returns returns-2 returns-3 prefix-count-requires mul-result returns-4)
+wrong-shares-spec = tie.close (tie.spec returns returns-2 returns-3 (λ c κs. search needs) (λ c. search needs) returns-4)

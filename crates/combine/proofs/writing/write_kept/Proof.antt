@@ -80,15 +80,6 @@ turn i =
 
 -- ---- the needs
 
-prefix-length-requires : tie.Need-prefix-length-requires Inv-loop μ-loop
-prefix-length-requires c κs = search needs
-
-packed-length-requires : tie.Need-packed-length-requires Inv-loop μ-loop
-packed-length-requires c κs = search needs
-
-prefix-count-requires : tie.Need-prefix-count-requires Inv-loop μ-loop
-prefix-count-requires c κs = search needs
-
 loop-holds : tie.Need-loop-holds Inv-loop μ-loop
 loop-holds c =
     let s = begin c in
@@ -106,23 +97,11 @@ loop-holds c =
       rw all (grown-start (a .out .now) (a .at) _),
     )
 
-is-kept-requires : tie.Need-is-kept-requires Inv-loop μ-loop
-is-kept-requires c κs = search needs
-
 write-one-requires : tie.Need-write-one-requires Inv-loop μ-loop
 write-one-requires c κs = room (c .before)
 
 add-from : tie.Need-add-from Inv-loop μ-loop
 add-from c = omega (arith, room (c .before .before .before .before))
-
-add-place : tie.Need-add-place Inv-loop μ-loop
-add-place c = omega arith
-
-sub-left : tie.Need-sub-left Inv-loop μ-loop
-sub-left c = omega arith
-
-loop-less : tie.Need-loop-less Inv-loop μ-loop
-loop-less c = omega arith
 
 loop-again : tie.Need-loop-again Inv-loop μ-loop
 loop-again c =
@@ -158,19 +137,5 @@ returns c =
 pub write-kept-spec : {M : Type 1} → statement M
 write-kept-spec =
     tie.close
-    (tie.spec
-    Inv-loop
-    μ-loop
-    prefix-length-requires
-    packed-length-requires
-    prefix-count-requires
-    loop-holds
-    is-kept-requires
-    write-one-requires
-    add-from
-    add-place
-    sub-left
-    loop-less
-    loop-again
-    same-length
-    returns)
+    (tie.spec Inv-loop μ-loop (λ c κs. search needs) (λ c κs. search needs) (λ c κs. search needs) loop-holds (λ c κs. search needs)
+    write-one-requires add-from (λ c. omega arith) (λ c. omega arith) (λ c. omega arith) loop-again same-length returns)

@@ -7,32 +7,8 @@ use Rattle.query.proofs.Pieces.{part-inside}
 use Rattle.combine.proofs.writing.write_one.Statement.{statement}
 use Rattle.combine.proofs.writing.write_one.Tie as tie
 
-write-prefix-requires : tie.Need-write-prefix-requires
-write-prefix-requires c κs = search needs
-
-same-length : tie.Need-same-length
-same-length c = search needs
-
 returns : tie.Need-returns
 returns c = let w = c .before .before in rw (w .before .before .if1 .taken) (w .write-prefix .ensures .0, w .write-prefix .ensures .1)
-
-add-end : tie.Need-add-end
-add-end c = search needs
-
-sub-write-both-children : tie.Need-sub-write-both-children
-sub-write-both-children c = search needs
-
-part-write-both-children-start : tie.Need-part-write-both-children-start
-part-write-both-children-start c = search needs
-
-part-write-both-children-end : tie.Need-part-write-both-children-end
-part-write-both-children-end c = search needs
-
-write-both-children-requires : tie.Need-write-both-children-requires
-write-both-children-requires c κs = search needs
-
-same-length-2 : tie.Need-same-length-2
-same-length-2 c = search needs
 
 returns-2 : tie.Need-returns-2
 returns-2 c =
@@ -47,14 +23,5 @@ returns-2 c =
 pub write-one-spec : {M : Type 1} → statement M
 write-one-spec =
     tie.close
-    (tie.spec
-    write-prefix-requires
-    same-length
-    returns
-    add-end
-    sub-write-both-children
-    part-write-both-children-start
-    part-write-both-children-end
-    write-both-children-requires
-    same-length-2
-    returns-2)
+    (tie.spec (λ c κs. search needs) (λ c. search needs) returns (λ c. search needs) (λ c. search needs) (λ c. search needs) (λ c. search needs)
+    (λ c κs. search needs) (λ c. search needs) returns-2)

@@ -45,9 +45,6 @@ write-list-requires c κs =
     let s = start w in
     (s .pre .0, grown-room (s .args .out .now) 0 _ _ (second s) [] _ (grown w) (room s))
 
-same-length : tie.Need-same-length
-same-length c = search needs
-
 returns : tie.Need-returns
 unfolding printed
 returns c =
@@ -61,4 +58,4 @@ returns c =
     (omega (arith, e .0), e .1 ∙ putAt-overlay o (first s ++ second s) (s .pre .3))
 
 pub print-spec : {M : Type 1} → statement M
-print-spec = tie.close (tie.spec write-record-requires write-list-requires same-length returns)
+print-spec = tie.close (tie.spec write-record-requires write-list-requires (λ c. search needs) returns)

@@ -17,15 +17,6 @@ size : (c : tie.After-packed-length)
 size c =
     ap₂ _*_ (c .before .before .prefix-count .ensures .0) (c .packed-length .ensures ∙ ap packedLength (c .before .prefix-length .ensures .0))
 
-prefix-count-requires : tie.Need-prefix-count-requires
-prefix-count-requires c κs = search needs
-
-prefix-length-requires : tie.Need-prefix-length-requires
-prefix-length-requires c κs = search needs
-
-packed-length-requires : tie.Need-packed-length-requires
-packed-length-requires c κs = search needs
-
 mul-result : tie.Need-mul-result
 mul-result c = omega (arith, size c, c .before .before .before .before .pre)
 
@@ -36,12 +27,4 @@ returns : tie.Need-returns
 returns c = omega (arith, size c)
 
 pub query-length-spec : {M : Type 1} → statement M
-query-length-spec =
-    tie.close
-    (tie.spec
-    prefix-count-requires
-    prefix-length-requires
-    packed-length-requires
-    mul-result
-    add-result
-    returns)
+query-length-spec = tie.close (tie.spec (λ c κs. search needs) (λ c κs. search needs) (λ c κs. search needs) mul-result add-result returns)

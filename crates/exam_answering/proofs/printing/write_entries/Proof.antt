@@ -63,9 +63,6 @@ room i = let l = i .before .loop in next-room (l .left) (width i) (l .from) (len
 
 -- ---- the needs
 
-packed-length-requires : tie.Need-packed-length-requires Inv-loop μ-loop
-packed-length-requires c κs = search needs
-
 loop-holds : tie.Need-loop-holds Inv-loop μ-loop
 loop-holds c =
     let s = c .before .before .before in
@@ -85,12 +82,6 @@ add-from c = let i = c .before .before .before .before in omega (arith, room i .
 
 add-place : tie.Need-add-place Inv-loop μ-loop
 add-place c = let i = c .before .before .before .before in omega (arith, i .before .loop .inv .1, i .loop-test .taken)
-
-sub-left : tie.Need-sub-left Inv-loop μ-loop
-sub-left c = omega arith
-
-loop-less : tie.Need-loop-less Inv-loop μ-loop
-loop-less c = omega arith
 
 loop-again : tie.Need-loop-again Inv-loop μ-loop
 loop-again c =
@@ -119,16 +110,5 @@ returns c =
 pub write-entries-spec : {M : Type 1} → statement M
 write-entries-spec =
     tie.close
-    (tie.spec
-    Inv-loop
-    μ-loop
-    packed-length-requires
-    loop-holds
-    write-entry-requires
-    add-from
-    add-place
-    sub-left
-    loop-less
-    loop-again
-    same-length
-    returns)
+    (tie.spec Inv-loop μ-loop (λ c κs. search needs) loop-holds write-entry-requires add-from add-place (λ c. omega arith) (λ c. omega arith)
+    loop-again same-length returns)

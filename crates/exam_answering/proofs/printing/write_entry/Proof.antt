@@ -34,27 +34,6 @@ sized s =
     let a = s .args in
     ap (λ (m : ℕ). length (take m (drop (a .from) (a .round .now)))) (width s) ∙ part-length (a .w) (a .from) (a .round .now) (s .pre .0 .1) ∙ s .pre .0 .0
 
-add-end : tie.Need-add-end
-add-end c = search needs
-
-sub-write-prefix-line : tie.Need-sub-write-prefix-line
-sub-write-prefix-line c = search needs
-
-part-write-prefix-line-start : tie.Need-part-write-prefix-line-start
-part-write-prefix-line-start c = search needs
-
-part-write-prefix-line-end : tie.Need-part-write-prefix-line-end
-part-write-prefix-line-end c = search needs
-
-read-le8-requires : tie.Need-read-le8-requires
-read-le8-requires c κs = search needs
-
-write-prefix-line-requires : tie.Need-write-prefix-line-requires
-write-prefix-line-requires c κs = search needs
-
-same-length : tie.Need-same-length
-same-length c = search needs
-
 returns : tie.Need-returns
 returns c =
     let p = c .before .before in
@@ -66,12 +45,5 @@ returns c =
 pub write-entry-spec : {M : Type 1} → statement M
 write-entry-spec =
     tie.close
-    (tie.spec
-    add-end
-    sub-write-prefix-line
-    part-write-prefix-line-start
-    part-write-prefix-line-end
-    read-le8-requires
-    write-prefix-line-requires
-    same-length
-    returns)
+    (tie.spec (λ c. search needs) (λ c. search needs) (λ c. search needs) (λ c. search needs) (λ c κs. search needs) (λ c κs. search needs)
+    (λ c. search needs) returns)

@@ -14,24 +14,6 @@ use Rattle.exam_answering.proofs.printing.write_heavy.Tie as tie
 width : (s : tie.Start) → s .args .from + s .args .w - s .args .from ≡ s .args .w
 width s = omega arith
 
-add-end : tie.Need-add-end
-add-end c = search needs
-
-sub-write-heavy-line : tie.Need-sub-write-heavy-line
-sub-write-heavy-line c = search needs
-
-part-write-heavy-line-start : tie.Need-part-write-heavy-line-start
-part-write-heavy-line-start c = search needs
-
-part-write-heavy-line-end : tie.Need-part-write-heavy-line-end
-part-write-heavy-line-end c = search needs
-
-write-heavy-line-requires : tie.Need-write-heavy-line-requires
-write-heavy-line-requires c κs = search needs
-
-same-length : tie.Need-same-length
-same-length c = search needs
-
 returns : tie.Need-returns
 returns c =
     let h = c .before .before in
@@ -46,11 +28,4 @@ returns c =
 pub write-heavy-spec : {M : Type 1} → statement M
 write-heavy-spec =
     tie.close
-    (tie.spec
-    add-end
-    sub-write-heavy-line
-    part-write-heavy-line-start
-    part-write-heavy-line-end
-    write-heavy-line-requires
-    same-length
-    returns)
+    (tie.spec (λ c. search needs) (λ c. search needs) (λ c. search needs) (λ c. search needs) (λ c κs. search needs) (λ c. search needs) returns)

@@ -55,9 +55,6 @@ room i = let l = i .before .loop in next-room (l .left) (width i) (l .from) (len
 
 -- ---- the needs
 
-packed-length-requires : tie.Need-packed-length-requires Inv-loop μ-loop
-packed-length-requires c κs = search needs
-
 div-left : tie.Need-div-left Inv-loop μ-loop
 div-left c = omega (arith, c .packed-length .ensures, c .before .before .before .pre .0)
 
@@ -79,12 +76,6 @@ write-heavy-requires c κs =
 
 add-from : tie.Need-add-from Inv-loop μ-loop
 add-from c = let i = c .before .before .before .before in omega (arith, room i .0)
-
-sub-left : tie.Need-sub-left Inv-loop μ-loop
-sub-left c = omega arith
-
-loop-less : tie.Need-loop-less Inv-loop μ-loop
-loop-less c = omega arith
 
 loop-again : tie.Need-loop-again Inv-loop μ-loop
 loop-again c =
@@ -111,16 +102,5 @@ returns c =
 pub write-list-spec : {M : Type 1} → statement M
 write-list-spec =
     tie.close
-    (tie.spec
-    Inv-loop
-    μ-loop
-    packed-length-requires
-    div-left
-    loop-holds
-    write-heavy-requires
-    add-from
-    sub-left
-    loop-less
-    loop-again
-    same-length
-    returns)
+    (tie.spec Inv-loop μ-loop (λ c κs. search needs) div-left loop-holds write-heavy-requires add-from (λ c. omega arith) (λ c. omega arith)
+    loop-again same-length returns)

@@ -83,15 +83,6 @@ returns c =
     let e : length (drop (l .from) (a .«record» .now)) ≡ 0 = omega (arith, length-drop (l .from) (a .«record» .now), c .if1 .taken) in
     all-written (a .out .now) (a .at) (l .out) (l .here) _ (rw (record-end (l .left) (drop (l .from) (a .«record» .now)) e) at (l .inv .2))
 
-sub-write-round : tie.Need-sub-write-round Inv-loop μ-loop
-sub-write-round c = search needs
-
-part-write-round-start : tie.Need-part-write-round-start Inv-loop μ-loop
-part-write-round-start c = search needs
-
-part-write-round-end : tie.Need-part-write-round-end Inv-loop μ-loop
-part-write-round-end c = search needs
-
 write-round-requires : tie.Need-write-round-requires Inv-loop μ-loop
 write-round-requires c κs =
     let i = c .before .before in
@@ -101,15 +92,6 @@ write-round-requires c κs =
     rw (rest-of (l .from) (a .«record» .now))
     (first-within i, grown-room (a .out .now) (a .at) (l .out) (l .here) (roundLines (rounds i)) (others i size refl) (whole i) (turn i size refl) (start i .pre .1))
 
-sub-round-length : tie.Need-sub-round-length Inv-loop μ-loop
-sub-round-length c = search needs
-
-part-round-length-start : tie.Need-part-round-length-start Inv-loop μ-loop
-part-round-length-start c = search needs
-
-part-round-length-end : tie.Need-part-round-length-end Inv-loop μ-loop
-part-round-length-end c = search needs
-
 round-length-requires : tie.Need-round-length-requires Inv-loop μ-loop
 round-length-requires c κs =
     let i = c .before .before .before .before .before .before in
@@ -117,12 +99,6 @@ round-length-requires c κs =
 
 add-from : tie.Need-add-from Inv-loop μ-loop
 add-from c = omega (arith, inside c)
-
-sub-left : tie.Need-sub-left Inv-loop μ-loop
-sub-left c = omega arith
-
-loop-less : tie.Need-loop-less Inv-loop μ-loop
-loop-less c = omega arith
 
 loop-again : tie.Need-loop-again Inv-loop μ-loop
 loop-again c =
@@ -152,23 +128,6 @@ returns-2 c =
 pub write-record-spec : {M : Type 1} → statement M
 write-record-spec =
     tie.close
-    (tie.spec
-    Inv-loop
-    μ-loop
-    loop-holds
-    same-length
-    returns
-    sub-write-round
-    part-write-round-start
-    part-write-round-end
-    write-round-requires
-    sub-round-length
-    part-round-length-start
-    part-round-length-end
-    round-length-requires
-    add-from
-    sub-left
-    loop-less
-    loop-again
-    same-length-2
-    returns-2)
+    (tie.spec Inv-loop μ-loop loop-holds same-length returns (λ c. search needs) (λ c. search needs) (λ c. search needs) write-round-requires
+    (λ c. search needs) (λ c. search needs) (λ c. search needs) round-length-requires add-from (λ c. omega arith) (λ c. omega arith) loop-again
+    same-length-2 returns-2)

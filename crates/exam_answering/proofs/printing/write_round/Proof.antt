@@ -18,15 +18,6 @@ lines : (q : tie.After-query-length)
     ≡ roundLines (bytes q)
 lines q = round-lines (bytes q) _ _ _ (q .before .before .prefix-length .ensures .0) (q .before .prefix-count .ensures .0) (q .query-length .ensures)
 
-prefix-length-requires : tie.Need-prefix-length-requires
-prefix-length-requires c κs = search needs
-
-prefix-count-requires : tie.Need-prefix-count-requires
-prefix-count-requires c κs = search needs
-
-query-length-requires : tie.Need-query-length-requires
-query-length-requires c κs = search needs
-
 write-entries-requires : tie.Need-write-entries-requires
 write-entries-requires c κs =
     let q = c .before in
@@ -35,19 +26,10 @@ write-entries-requires c κs =
       rw (lines q) (s .pre .1),
     )
 
-same-length : tie.Need-same-length
-same-length c = search needs
-
 returns : tie.Need-returns
 returns c = let e = c .before .before in rw (lines (e .before .before)) at (e .write-entries .ensures)
 
 pub write-round-spec : {M : Type 1} → statement M
 write-round-spec =
     tie.close
-    (tie.spec
-    prefix-length-requires
-    prefix-count-requires
-    query-length-requires
-    write-entries-requires
-    same-length
-    returns)
+    (tie.spec (λ c κs. search needs) (λ c κs. search needs) (λ c κs. search needs) write-entries-requires (λ c. search needs) returns)

@@ -8,27 +8,6 @@ use borrow.Author.Needs.{needs}
 use Rattle.exam_answering.proofs.reports.write_key.Statement.{statement}
 use Rattle.exam_answering.proofs.reports.write_key.Tie as tie
 
-public-share-length-requires : tie.Need-public-share-length-requires
-public-share-length-requires c κs = search needs
-
-add-end : tie.Need-add-end
-add-end c = search needs
-
-sub-make-key : tie.Need-sub-make-key
-sub-make-key c = search needs
-
-part-make-key-start : tie.Need-part-make-key-start
-part-make-key-start c = search needs
-
-part-make-key-end : tie.Need-part-make-key-end
-part-make-key-end c = search needs
-
-make-key-requires : tie.Need-make-key-requires
-make-key-requires c κs = search needs
-
-same-length : tie.Need-same-length
-same-length c = search needs
-
 returns : tie.Need-returns
 returns c =
     let m = c .before .before in
@@ -42,12 +21,5 @@ returns c =
 pub write-key-spec : {M : Type 1} → statement M
 write-key-spec =
     tie.close
-    (tie.spec
-    public-share-length-requires
-    add-end
-    sub-make-key
-    part-make-key-start
-    part-make-key-end
-    make-key-requires
-    same-length
-    returns)
+    (tie.spec (λ c κs. search needs) (λ c. search needs) (λ c. search needs) (λ c. search needs) (λ c. search needs) (λ c κs. search needs)
+    (λ c. search needs) returns)

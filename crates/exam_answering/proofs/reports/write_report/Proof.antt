@@ -47,23 +47,11 @@ four r = ap length (r .read-line .ensures .0) ∙ four-length _
 
 -- ---- the needs
 
-read-line-requires : tie.Need-read-line-requires
-read-line-requires c κs = search needs
-
-packed-length-requires : tie.Need-packed-length-requires
-packed-length-requires c κs = search needs
-
 mul-write16 : tie.Need-mul-write16
 mul-write16 c = omega (arith, c .before .before .before .before .before .before .before .before .before .before .pre .1 .0)
 
-write16-requires : tie.Need-write16-requires
-write16-requires c κs = search needs
-
 mul-write16-2 : tie.Need-mul-write16-2
 mul-write16-2 c = omega (arith, c .before .before .before .before .before .before .before .before .before .before .before .before .before .before .pre .1 .0)
-
-write16-requires-2 : tie.Need-write16-requires-2
-write16-requires-2 c κs = search needs
 
 array-share-prefix-string : tie.Need-array-share-prefix-string
 array-share-prefix-string c = omega (arith, c .before .before .before .before .before .before .before .before .packed-length .ensures, c .before .before .before .before .before .before .before .before .before .before .before .before .before .before .before .before .before .pre .0 .1, four (c .before .before .before .before .before .before .before .before .before .before .before .before))
@@ -73,15 +61,6 @@ slice-aggregate-write-key c =
     sym (length-take-le (c .before .before .before .before .before .before .before .before .before .packed-length .result) (c .before .before .before .before .before .before .before .before .before .before .before .before .before .read-line .result .string)
     (omega (arith, c .before .before .before .before .before .before .before .before .before .packed-length .ensures, c .before .before .before .before .before .before .before .before .before .before .before .before .before .before .before .before .before .before .pre .0 .1, four (c .before .before .before .before .before .before .before .before .before .before .before .before .before))))
 
-slice-aggregate-write-key-2 : tie.Need-slice-aggregate-write-key-2
-slice-aggregate-write-key-2 c = search needs
-
-slice-aggregate-write-key-3 : tie.Need-slice-aggregate-write-key-3
-slice-aggregate-write-key-3 c = search needs
-
-public-share-length-requires : tie.Need-public-share-length-requires
-public-share-length-requires c κs = search needs
-
 mul-write-key : tie.Need-mul-write-key
 mul-write-key c = rw (c .public-share-length .ensures) (omega (arith, start c .pre .1 .2, start c .good .1 .1 .1 .1 .1 .1 .1 .0 .0))
 
@@ -90,15 +69,6 @@ write-key-requires c κs =
     let s = start c in
     let a = s .args in
     (rw (c .public-share-length .ensures) (s .pre .1 .2), ap length (made c) ∙ key-size (a .n) (a .expander) (s .pre .0 .0) (s .pre .0 .1) (s .pre .0 .2) (line c) (sound c))
-
-same-length : tie.Need-same-length
-same-length c = search needs
-
-same-length-2 : tie.Need-same-length-2
-same-length-2 c = search needs
-
-same-length-3 : tie.Need-same-length-3
-same-length-3 c = search needs
 
 returns : tie.Need-returns
 returns c =
@@ -115,21 +85,6 @@ returns c =
 pub write-report-spec : {M : Type 1} → statement M
 write-report-spec =
     tie.close
-    (tie.spec
-    read-line-requires
-    packed-length-requires
-    mul-write16
-    write16-requires
-    mul-write16-2
-    write16-requires-2
-    array-share-prefix-string
-    slice-aggregate-write-key
-    slice-aggregate-write-key-2
-    slice-aggregate-write-key-3
-    public-share-length-requires
-    mul-write-key
-    write-key-requires
-    same-length
-    same-length-2
-    same-length-3
-    returns)
+    (tie.spec (λ c κs. search needs) (λ c κs. search needs) mul-write16 (λ c κs. search needs) mul-write16-2 (λ c κs. search needs)
+    array-share-prefix-string slice-aggregate-write-key (λ c. search needs) (λ c. search needs) (λ c κs. search needs) mul-write-key
+    write-key-requires (λ c. search needs) (λ c. search needs) (λ c. search needs) returns)

@@ -66,9 +66,6 @@ module _ (i : tie.In-loop Inv-loop μ-loop) where
 
 -- ---- the needs
 
-add-size : tie.Need-add-size Inv-loop μ-loop
-add-size c = omega arith
-
 loop-holds : tie.Need-loop-holds Inv-loop μ-loop
 loop-holds c =
     let a = c .before .before .before .before .args in
@@ -139,18 +136,5 @@ returns c =
 pub write-reports-spec : {M : Type 1} → statement M
 write-reports-spec =
     tie.close
-    (tie.spec
-    Inv-loop
-    μ-loop
-    add-size
-    loop-holds
-    write-report-requires
-    add-here
-    add-i
-    sub-left
-    loop-less
-    loop-again
-    same-length
-    same-length-2
-    same-length-3
-    returns)
+    (tie.spec Inv-loop μ-loop (λ c. omega arith) loop-holds write-report-requires add-here add-i sub-left loop-less loop-again same-length
+    same-length-2 same-length-3 returns)

@@ -103,23 +103,11 @@ write-reports-requires c κs =
       ),
     )
 
-mul-seeds-end : tie.Need-mul-seeds-end
-mul-seeds-end c = search needs
-
-public-share-length-requires : tie.Need-public-share-length-requires
-public-share-length-requires c κs = search needs
-
 mul-shares-end : tie.Need-mul-shares-end
 mul-shares-end c = omega (arith, room c)
 
-slice-reshare-prefix-search-printed : tie.Need-slice-reshare-prefix-search-printed
-slice-reshare-prefix-search-printed c = search needs
-
 slice-aggregate-search-printed : tie.Need-slice-aggregate-search-printed
 slice-aggregate-search-printed c = sym (length-take-le _ _ (search needs))
-
-slice-reshare-prefix-search-printed-2 : tie.Need-slice-reshare-prefix-search-printed-2
-slice-reshare-prefix-search-printed-2 c = search needs
 
 slice-aggregate-search-printed-2 : tie.Need-slice-aggregate-search-printed-2
 slice-aggregate-search-printed-2 c = sym (length-take-le _ _ (search needs))
@@ -138,24 +126,6 @@ search-printed-requires c κs =
       (rounds k, rw (answer-is k) (omega (arith, fits s, s .pre .1 .1 .5))),
     )
 
-same-length : tie.Need-same-length
-same-length c = search needs
-
-same-length-2 : tie.Need-same-length-2
-same-length-2 c = search needs
-
-same-length-3 : tie.Need-same-length-3
-same-length-3 c = search needs
-
-same-length-4 : tie.Need-same-length-4
-same-length-4 c = search needs
-
-same-length-5 : tie.Need-same-length-5
-same-length-5 c = search needs
-
-same-length-6 : tie.Need-same-length-6
-same-length-6 c = search needs
-
 returns : tie.Need-returns
 returns c =
     let p = c .before .before .before .before .before .before in
@@ -168,22 +138,7 @@ returns c =
 pub print-answer-spec : {M : Type 1} → statement M
 print-answer-spec =
     tie.close
-    (tie.spec
-    write-reports-requires
-    mul-seeds-end
-    public-share-length-requires
-    mul-shares-end
-    slice-reshare-prefix-search-printed
-    slice-aggregate-search-printed
-    slice-reshare-prefix-search-printed-2
-    slice-aggregate-search-printed-2
-    slice-reshare-prefix-search-printed-3
-    slice-aggregate-search-printed-3
-    search-printed-requires
-    same-length
-    same-length-2
-    same-length-3
-    same-length-4
-    same-length-5
-    same-length-6
+    (tie.spec write-reports-requires (λ c. search needs) (λ c κs. search needs) mul-shares-end (λ c. search needs) slice-aggregate-search-printed
+    (λ c. search needs) slice-aggregate-search-printed-2 slice-reshare-prefix-search-printed-3 slice-aggregate-search-printed-3
+    search-printed-requires (λ c. search needs) (λ c. search needs) (λ c. search needs) (λ c. search needs) (λ c. search needs) (λ c. search needs)
     returns)

@@ -51,9 +51,6 @@ list-size k = ap length (list-is k) ∙ list-whole (asked k) (start k .pre .0 .2
 
 -- ---- the needs
 
-search-requires : tie.Need-search-requires
-search-requires c κs = search needs
-
 slice-reshare-prefix-print : tie.Need-slice-reshare-prefix-print
 slice-reshare-prefix-print c =
     let k = c .before .before .before .before in
@@ -76,15 +73,6 @@ print-requires c κs =
     let s = start k in
     (s .pre .0 .0, omega (arith, s .pre .0 .1), rw (record-is k) (s .pre .1 .0), rw (record-is k, list-is k) (s .pre .1 .1))
 
-same-length : tie.Need-same-length
-same-length c = search needs
-
-same-length-2 : tie.Need-same-length-2
-same-length-2 c = search needs
-
-same-length-3 : tie.Need-same-length-3
-same-length-3 c = search needs
-
 returns : tie.Need-returns
 returns c =
     let p = c .before .before in
@@ -97,14 +85,5 @@ returns c =
 pub search-printed-spec : {M : Type 1} → statement M
 search-printed-spec =
     tie.close
-    (tie.spec
-    search-requires
-    slice-reshare-prefix-print
-    slice-aggregate-print
-    slice-reshare-prefix-print-2
-    slice-aggregate-print-2
-    print-requires
-    same-length
-    same-length-2
-    same-length-3
-    returns)
+    (tie.spec (λ c κs. search needs) slice-reshare-prefix-print slice-aggregate-print slice-reshare-prefix-print-2 slice-aggregate-print-2
+    print-requires (λ c. search needs) (λ c. search needs) (λ c. search needs) returns)

@@ -35,24 +35,6 @@ zeros n = length-replicate {A = ℕ} n 0
 
 -- ---- the needs
 
-slice-aggregate-print-answer : tie.Need-slice-aggregate-print-answer
-slice-aggregate-print-answer c = search needs
-
-slice-aggregate-print-answer-2 : tie.Need-slice-aggregate-print-answer-2
-slice-aggregate-print-answer-2 c = search needs
-
-slice-aggregate-print-answer-3 : tie.Need-slice-aggregate-print-answer-3
-slice-aggregate-print-answer-3 c = search needs
-
-slice-aggregate-print-answer-4 : tie.Need-slice-aggregate-print-answer-4
-slice-aggregate-print-answer-4 c = search needs
-
-slice-aggregate-print-answer-5 : tie.Need-slice-aggregate-print-answer-5
-slice-aggregate-print-answer-5 c = search needs
-
-slice-aggregate-print-answer-6 : tie.Need-slice-aggregate-print-answer-6
-slice-aggregate-print-answer-6 c = search needs
-
 print-answer-requires : tie.Need-print-answer-requires
 print-answer-requires c κs =
     let s = c .before .before .before .before .before .before .before .before in
@@ -64,17 +46,8 @@ returns c =
     let out = start p .args .out .now in
     rw (lt-ltb (length out) (length (answer p)) (omega (arith, c .if1 .taken, size-is p))) (refl, (refl, sym (overlay-nil out)))
 
-array-share-prefix-printed : tie.Need-array-share-prefix-printed
-array-share-prefix-printed c = search needs
-
 slice-aggregate-copy : tie.Need-slice-aggregate-copy
 slice-aggregate-copy c = let p = c .before .before .before .before .before .before .before .before in size-is p ∙ sym (ap length (printed-is p))
-
-copy-requires : tie.Need-copy-requires
-copy-requires c κs = search needs
-
-same-length : tie.Need-same-length
-same-length c = search needs
 
 returns-2 : tie.Need-returns-2
 returns-2 c =
@@ -87,17 +60,5 @@ returns-2 c =
 pub solve-spec : {M : Type 1} → statement M
 solve-spec =
     tie.close
-    (tie.spec
-    slice-aggregate-print-answer
-    slice-aggregate-print-answer-2
-    slice-aggregate-print-answer-3
-    slice-aggregate-print-answer-4
-    slice-aggregate-print-answer-5
-    slice-aggregate-print-answer-6
-    print-answer-requires
-    returns
-    array-share-prefix-printed
-    slice-aggregate-copy
-    copy-requires
-    same-length
-    returns-2)
+    (tie.spec (λ c. search needs) (λ c. search needs) (λ c. search needs) (λ c. search needs) (λ c. search needs) (λ c. search needs)
+    print-answer-requires returns (λ c. search needs) slice-aggregate-copy (λ c κs. search needs) (λ c. search needs) returns-2)

@@ -22,12 +22,6 @@ string s = binary (unpack (s .args .n) (s .args .packed .now))
 word : (w : tie.After-copy) → Wrote (start w .args .out .now) (start w .args .at) heavyWord (w .copy .last .1 .0) (start w .args .at + 5)
 word w = (refl, w .copy .ensures)
 
-slice-aggregate-copy : tie.Need-slice-aggregate-copy
-slice-aggregate-copy c = search needs
-
-copy-requires : tie.Need-copy-requires
-copy-requires c κs = search needs
-
 add-put : tie.Need-add-put
 add-put c =
     let w = c .before .before .before in
@@ -59,9 +53,6 @@ put-requires-2 c κs =
           (b .write-bits .ensures),
     )
 
-same-length : tie.Need-same-length
-same-length c = search needs
-
 returns : tie.Need-returns
 returns c =
     let q = c .before .before in
@@ -75,12 +66,4 @@ returns c =
 pub put-heavy-line-spec : {M : Type 1} → statement M
 put-heavy-line-spec =
     tie.close
-    (tie.spec
-    slice-aggregate-copy
-    copy-requires
-    add-put
-    put-requires
-    write-bits-requires
-    put-requires-2
-    same-length
-    returns)
+    (tie.spec (λ c. search needs) (λ c κs. search needs) add-put put-requires write-bits-requires put-requires-2 (λ c. search needs) returns)

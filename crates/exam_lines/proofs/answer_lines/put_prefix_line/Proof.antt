@@ -47,9 +47,6 @@ put-requires-2 c κs =
           (p .put .ensures) _ _ (d .write-decimal .ensures),
     )
 
-same-length : tie.Need-same-length
-same-length c = search needs
-
 returns : tie.Need-returns
 returns c =
     let q = c .before .before in
@@ -61,12 +58,4 @@ returns c =
     (p .put .ensures) _ _ (d .write-decimal .ensures) _ _ (q .put2 .ensures)
 
 pub put-prefix-line-spec : {M : Type 1} → statement M
-put-prefix-line-spec =
-    tie.close
-    (tie.spec
-    write-bits-requires
-    put-requires
-    write-decimal-requires
-    put-requires-2
-    same-length
-    returns)
+put-prefix-line-spec = tie.close (tie.spec write-bits-requires put-requires write-decimal-requires put-requires-2 (λ c. search needs) returns)

@@ -50,24 +50,12 @@ turn i =
 loop-holds : tie.Need-loop-holds Inv-loop μ-loop
 loop-holds c = let a = c .before .before .args in (omega arith, grown-start (a .out .now) (a .at) _)
 
-bit-at-requires : tie.Need-bit-at-requires Inv-loop μ-loop
-bit-at-requires c κs = search needs
-
-bit-digit-requires : tie.Need-bit-digit-requires Inv-loop μ-loop
-bit-digit-requires c κs = search needs
-
 put-requires : tie.Need-put-requires Inv-loop μ-loop
 put-requires c κs =
     let i = c .before .before .before in
     let a = start i .args in
     let l = i .before .loop in
     omega (arith, grown-room (a .out .now) (a .at) (l .out) (l .here) (character i ∷ []) (others i) (whole i) (turn i) (start i .pre .1))
-
-add-i : tie.Need-add-i Inv-loop μ-loop
-add-i c = omega arith
-
-loop-less : tie.Need-loop-less Inv-loop μ-loop
-loop-less c = omega arith
 
 loop-again : tie.Need-loop-again Inv-loop μ-loop
 loop-again c =
@@ -97,15 +85,5 @@ returns c =
 pub write-bits-spec : {M : Type 1} → statement M
 write-bits-spec =
     tie.close
-    (tie.spec
-    Inv-loop
-    μ-loop
-    loop-holds
-    bit-at-requires
-    bit-digit-requires
-    put-requires
-    add-i
-    loop-less
-    loop-again
-    same-length
-    returns)
+    (tie.spec Inv-loop μ-loop loop-holds (λ c κs. search needs) (λ c κs. search needs) put-requires (λ c. omega arith) (λ c. omega arith) loop-again
+    same-length returns)

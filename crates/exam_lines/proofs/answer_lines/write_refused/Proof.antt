@@ -18,15 +18,6 @@ start p = p .before .before .before .before .before .before .before .before
 room : (p : tie.After-put) → 0 + length (refusedText (start p .args .number)) ≤ length (start p .args .out .now)
 room p = omega (arith, start p .pre)
 
-slice-aggregate-copy : tie.Need-slice-aggregate-copy
-slice-aggregate-copy c = search needs
-
-copy-requires : tie.Need-copy-requires
-copy-requires c κs = search needs
-
-put-requires : tie.Need-put-requires
-put-requires c κs = search needs
-
 write-decimal-requires : tie.Need-write-decimal-requires
 write-decimal-requires c κs =
     let p = c .before .before .before in
@@ -45,9 +36,6 @@ put-requires-2 c κs =
           (refl, p .before .before .before .before .copy .ensures) _ _ (p .put .ensures) _ _ (w .write-decimal .ensures),
     )
 
-same-length : tie.Need-same-length
-same-length c = search needs
-
 returns : tie.Need-returns
 returns c =
     let q = c .before .before in
@@ -61,11 +49,4 @@ returns c =
 pub write-refused-spec : {M : Type 1} → statement M
 write-refused-spec =
     tie.close
-    (tie.spec
-    slice-aggregate-copy
-    copy-requires
-    put-requires
-    write-decimal-requires
-    put-requires-2
-    same-length
-    returns)
+    (tie.spec (λ c. search needs) (λ c κs. search needs) (λ c κs. search needs) write-decimal-requires put-requires-2 (λ c. search needs) returns)

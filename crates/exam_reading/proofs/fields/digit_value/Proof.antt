@@ -9,11 +9,8 @@ use Rattle.exam_reading.proofs.fields.digit_value.Tie as tie
 sub-result : tie.Need-sub-result
 sub-result c = decimal-low _ (c .pre)
 
-cast-result : tie.Need-cast-result
-cast-result c = search needs
-
 returns : tie.Need-returns
 returns c = (refl, omega (arith, decimal-high (c .args .c) (c .pre)))
 
 pub digit-value-spec : {M : Type 1} → statement M
-digit-value-spec = tie.close (tie.spec sub-result cast-result returns)
+digit-value-spec = tie.close (tie.spec sub-result (λ c. search needs) returns)

@@ -10,9 +10,6 @@ use Rattle.exam_reading.proofs.Field.{no-digit, too-many, one-digit, fi
 use Rattle.exam_reading.proofs.fields.is_number.Statement.{statement}
 use Rattle.exam_reading.proofs.fields.is_number.Tie as tie
 
-sub-size : tie.Need-sub-size
-sub-size c = search needs
-
 returns : tie.Need-returns
 returns c =
     let a = c .before .args in
@@ -28,9 +25,6 @@ returns-3 c =
     let a = c .before .before .before .args in
     sym (one-digit (leading (drop (a .at) (a .text .now))) (a .end - a .at) (omega arith) (omega arith) (omega arith) (omega arith))
 
-shared-slice-read-result : tie.Need-shared-slice-read-result
-shared-slice-read-result c = search needs
-
 returns-4 : tie.Need-returns-4
 returns-4 c =
     let a = c .before .before .before .before .args in
@@ -38,5 +32,4 @@ returns-4 c =
     sym (first-digit (leading (drop (a .at) (a .text .now))) (a .end - a .at) (omega arith) (omega arith) (omega arith) (c .before .if3 .left) ∙ rw f)
 
 pub is-number-spec : {M : Type 1} → statement M
-is-number-spec =
-    tie.close (tie.spec sub-size returns returns-2 returns-3 shared-slice-read-result returns-4)
+is-number-spec = tie.close (tie.spec (λ c. search needs) returns returns-2 returns-3 (λ c. search needs) returns-4)

@@ -31,20 +31,11 @@ loop-holds c = (omega arith, omega arith, rw (sub-self (c .before .args .at)) (o
 mul-x : tie.Need-mul-x Inv-loop μ-loop
 mul-x c = omega (arith, few (c .before))
 
-shared-slice-read-digit-value : tie.Need-shared-slice-read-digit-value Inv-loop μ-loop
-shared-slice-read-digit-value c = omega arith
-
 digit-value-requires : tie.Need-digit-value-requires Inv-loop μ-loop
 digit-value-requires c κs = leading-digit (c .before .before .before .before .args .text .now) (c .before .before .loop .i) (omega arith)
 
 add-x : tie.Need-add-x Inv-loop μ-loop
 add-x c = omega (arith, few (c .before .before .before))
-
-add-i : tie.Need-add-i Inv-loop μ-loop
-add-i c = omega arith
-
-loop-less : tie.Need-loop-less Inv-loop μ-loop
-loop-less c = omega arith
 
 loop-again : tie.Need-loop-again Inv-loop μ-loop
 loop-again c =
@@ -70,15 +61,4 @@ returns c =
 pub number-in-spec : {M : Type 1} → statement M
 number-in-spec =
     tie.close
-    (tie.spec
-    Inv-loop
-    μ-loop
-    loop-holds
-    mul-x
-    shared-slice-read-digit-value
-    digit-value-requires
-    add-x
-    add-i
-    loop-less
-    loop-again
-    returns)
+    (tie.spec Inv-loop μ-loop loop-holds mul-x (λ c. omega arith) digit-value-requires add-x (λ c. omega arith) (λ c. omega arith) loop-again returns)

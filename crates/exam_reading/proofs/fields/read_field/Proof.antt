@@ -21,20 +21,11 @@ ended : (c : tie.Else2)
     ≡ c .before .before .before .before .before .before .args .then
 ended c = sym (c .before .byte-at .ensures) ∙ omega arith
 
-digits-end-requires : tie.Need-digits-end-requires
-digits-end-requires c κs = search needs
-
-is-number-requires : tie.Need-is-number-requires
-is-number-requires c κs = search needs
-
 returns : tie.Need-returns
 returns c =
     let a = c .before .before .before .before .args in
     field-no-number (a .text .now) (a .at) (a .then) (c .before .before .digits-end .result) (c .before .before .digits-end .ensures .0)
     (sym (c .before .is-number .ensures) ∙ not-true _ (c .if1 .taken))
-
-byte-at-requires : tie.Need-byte-at-requires
-byte-at-requires c κs = search needs
 
 returns-2 : tie.Need-returns-2
 returns-2 c =
@@ -69,12 +60,4 @@ returns-3 c =
 pub read-field-spec : {M : Type 1} → statement M
 read-field-spec =
     tie.close
-    (tie.spec
-    digits-end-requires
-    is-number-requires
-    returns
-    byte-at-requires
-    returns-2
-    number-in-requires
-    add-t9
-    returns-3)
+    (tie.spec (λ c κs. search needs) (λ c κs. search needs) returns (λ c κs. search needs) returns-2 number-in-requires add-t9 returns-3)

@@ -6,16 +6,10 @@ use Rattle.exam_reading.proofs.FirstLine.{end-without, end-none, end-wi
 use Rattle.exam_reading.proofs.first_line.read_end.Statement.{statement}
 use Rattle.exam_reading.proofs.first_line.read_end.Tie as tie
 
-read-field-requires : tie.Need-read-field-requires
-read-field-requires c κs = search needs
-
 returns : tie.Need-returns
 returns c =
     let a = c .before .before .before .args in
     end-without (a .text .now) (a .at) _ _ _ (c .before .read-field .ensures) (c .if1 .taken)
-
-read-field-requires-2 : tie.Need-read-field-requires-2
-read-field-requires-2 c κs = search needs
 
 returns-2 : tie.Need-returns-2
 returns-2 c =
@@ -33,12 +27,4 @@ returns-3 c =
     _ _ _ (c .before .before .before .read-field2 .ensures) (not-false _ (c .before .if2 .left)) _ _ _ (c .read-field3 .ensures)
 
 pub read-end-spec : {M : Type 1} → statement M
-read-end-spec =
-    tie.close
-    (tie.spec
-    read-field-requires
-    returns
-    read-field-requires-2
-    returns-2
-    read-field-requires-3
-    returns-3)
+read-end-spec = tie.close (tie.spec (λ c κs. search needs) returns (λ c κs. search needs) returns-2 read-field-requires-3 returns-3)

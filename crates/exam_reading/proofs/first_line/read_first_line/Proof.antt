@@ -6,12 +6,6 @@ use Rattle.exam_reading.proofs.FirstLine.{no-line, no-first, no-second,
 use Rattle.exam_reading.proofs.first_line.read_first_line.Statement.{statement}
 use Rattle.exam_reading.proofs.first_line.read_first_line.Tie as tie
 
-read-field-requires : tie.Need-read-field-requires
-read-field-requires c κs = search needs
-
-no-first-line-requires : tie.Need-no-first-line-requires
-no-first-line-requires c κs = search needs
-
 returns : tie.Need-returns
 returns c =
     let t = c .before .before .before .before .before .args .text .now in
@@ -19,9 +13,6 @@ returns c =
 
 read-field-requires-2 : tie.Need-read-field-requires-2
 read-field-requires-2 c κs = (c .before .before .read-field .ensures .says (not-false _ (c .if1 .left)) .rest .within, omega arith)
-
-no-first-line-requires-2 : tie.Need-no-first-line-requires-2
-no-first-line-requires-2 c κs = search needs
 
 returns-2 : tie.Need-returns-2
 returns-2 c =
@@ -43,12 +34,5 @@ returns-3 c =
 pub read-first-line-spec : {M : Type 1} → statement M
 read-first-line-spec =
     tie.close
-    (tie.spec
-    read-field-requires
-    no-first-line-requires
-    returns
-    read-field-requires-2
-    no-first-line-requires-2
-    returns-2
-    read-end-requires
+    (tie.spec (λ c κs. search needs) (λ c κs. search needs) returns read-field-requires-2 (λ c κs. search needs) returns-2 read-end-requires
     returns-3)

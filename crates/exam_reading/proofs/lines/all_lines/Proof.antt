@@ -37,17 +37,8 @@ returns c =
     ∙ lines-step (a .n) (l .left) (a .text .now) (l .here) (omega arith) (room (c .before .before))
     ∙ rw (sym (c .before .is-line .ensures) ∙ not-true _ (c .if1 .taken)))
 
-add-here : tie.Need-add-here Inv-loop μ-loop
-add-here c = omega arith
-
 add-here-2 : tie.Need-add-here-2 Inv-loop μ-loop
 add-here-2 c = omega (arith, room (c .before .before))
-
-sub-left : tie.Need-sub-left Inv-loop μ-loop
-sub-left c = omega arith
-
-loop-less : tie.Need-loop-less Inv-loop μ-loop
-loop-less c = omega arith
 
 loop-again : tie.Need-loop-again Inv-loop μ-loop
 loop-again c =
@@ -69,15 +60,5 @@ returns-2 c =
 pub all-lines-spec : {M : Type 1} → statement M
 all-lines-spec =
     tie.close
-    (tie.spec
-    Inv-loop
-    μ-loop
-    loop-holds
-    is-line-requires
-    returns
-    add-here
-    add-here-2
-    sub-left
-    loop-less
-    loop-again
+    (tie.spec Inv-loop μ-loop loop-holds is-line-requires returns (λ c. omega arith) add-here-2 (λ c. omega arith) (λ c. omega arith) loop-again
     returns-2)

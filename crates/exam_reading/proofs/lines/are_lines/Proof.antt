@@ -9,12 +9,6 @@ use Rattle.exam_reading.proofs.LineTests.{other-length}
 use Rattle.exam_reading.proofs.lines.are_lines.Statement.{statement}
 use Rattle.exam_reading.proofs.lines.are_lines.Tie as tie
 
-sub-if1 : tie.Need-sub-if1
-sub-if1 c = search needs
-
-add-if1 : tie.Need-add-if1
-add-if1 c = search needs
-
 mul-if1 : tie.Need-mul-if1
 mul-if1 c =
     let a = c .before .args in
@@ -26,11 +20,5 @@ returns c =
     let a = c .before .before .args in
     sym (other-length (a .n) (a .count) (drop (a .at) (a .text .now)) (λ e. c .if1 .taken (omega (arith, length-drop (a .at) (a .text .now)))))
 
-all-lines-requires : tie.Need-all-lines-requires
-all-lines-requires c κs = search needs
-
-returns-2 : tie.Need-returns-2
-returns-2 c = search needs
-
 pub are-lines-spec : {M : Type 1} → statement M
-are-lines-spec = tie.close (tie.spec sub-if1 add-if1 mul-if1 returns all-lines-requires returns-2)
+are-lines-spec = tie.close (tie.spec (λ c. search needs) (λ c. search needs) mul-if1 returns (λ c κs. search needs) (λ c. search needs))

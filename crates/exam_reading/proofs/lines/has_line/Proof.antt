@@ -19,20 +19,11 @@ returns-2 c =
     let a = c .before .before .before .args in
     rw (le-leb (a .n) 32 (omega arith), lt-leb (a .at + lineLength (a .n)) (length (a .text .now)) (omega arith))
 
-sub-if3 : tie.Need-sub-if3
-sub-if3 c = search needs
-
-add-if3 : tie.Need-add-if3
-add-if3 c = search needs
-
 returns-3 : tie.Need-returns-3
 unfolding hasLine
 returns-3 c =
     let a = c .before .before .before .before .args in
     rw (le-leb (a .n) 32 (omega arith), lt-leb (a .at + lineLength (a .n)) (length (a .text .now)) (omega arith))
-
-is-line-requires : tie.Need-is-line-requires
-is-line-requires c κs = search needs
 
 returns-4 : tie.Need-returns-4
 unfolding hasLine
@@ -41,4 +32,4 @@ returns-4 c =
     c .is-line .ensures ∙ rw (le-leb (a .n) 32 (omega arith), le-leb (a .at + lineLength (a .n)) (length (a .text .now)) (omega arith))
 
 pub has-line-spec : {M : Type 1} → statement M
-has-line-spec = tie.close (tie.spec returns returns-2 sub-if3 add-if3 returns-3 is-line-requires returns-4)
+has-line-spec = tie.close (tie.spec returns returns-2 (λ c. search needs) (λ c. search needs) returns-3 (λ c κs. search needs) returns-4)

@@ -8,19 +8,10 @@ use Rattle.exam_reading.proofs.LineTests.{line-tests}
 use Rattle.exam_reading.proofs.lines.is_line.Statement.{statement}
 use Rattle.exam_reading.proofs.lines.is_line.Tie as tie
 
-are-bits-requires : tie.Need-are-bits-requires
-are-bits-requires c κs = search needs
-
 returns : tie.Need-returns
 returns c =
     let a = c .before .before .before .args in
     rw (line-tests (a .text .now) (a .at) (a .n), sym (c .before .are-bits .ensures) ∙ not-true _ (c .if1 .taken))
-
-add-end : tie.Need-add-end
-add-end c = search needs
-
-shared-slice-read-if2 : tie.Need-shared-slice-read-if2
-shared-slice-read-if2 c = search needs
 
 returns-2 : tie.Need-returns-2
 returns-2 c =
@@ -31,12 +22,6 @@ returns-2 c =
       ne-eqb (getD (a .text .now) (a .at + a .n) 0) 32 (c .if2 .taken),
     )
 
-add-seed-then : tie.Need-add-seed-then
-add-seed-then c = search needs
-
-seed-then-requires : tie.Need-seed-then-requires
-seed-then-requires c κs = search needs
-
 returns-3 : tie.Need-returns-3
 returns-3 c =
     let a = c .before .before .before .before .before .before .before .args in
@@ -46,12 +31,6 @@ returns-3 c =
       eq-eqb (getD (a .text .now) (a .at + a .n) 0) 32 (c .before .before .if2 .left),
       sym (c .before .seed-then .ensures) ∙ not-true _ (c .if3 .taken),
     )
-
-add-seed-then-2 : tie.Need-add-seed-then-2
-add-seed-then-2 c = search needs
-
-seed-then-requires-2 : tie.Need-seed-then-requires-2
-seed-then-requires-2 c κs = search needs
 
 returns-4 : tie.Need-returns-4
 returns-4 c =
@@ -67,15 +46,5 @@ returns-4 c =
 pub is-line-spec : {M : Type 1} → statement M
 is-line-spec =
     tie.close
-    (tie.spec
-    are-bits-requires
-    returns
-    add-end
-    shared-slice-read-if2
-    returns-2
-    add-seed-then
-    seed-then-requires
-    returns-3
-    add-seed-then-2
-    seed-then-requires-2
-    returns-4)
+    (tie.spec (λ c κs. search needs) returns (λ c. search needs) (λ c. search needs) returns-2 (λ c. search needs) (λ c κs. search needs) returns-3
+    (λ c. search needs) (λ c κs. search needs) returns-4)

@@ -13,12 +13,6 @@ returns c =
     let a = c .before .args in
     (rw (bit-past (a .text .now) (a .at) (a .n) (c .before .pre) (a .k) (c .if1 .taken)), omega arith)
 
-add-if2 : tie.Need-add-if2
-add-if2 c = search needs
-
-shared-slice-read-if2 : tie.Need-shared-slice-read-if2
-shared-slice-read-if2 c = search needs
-
 returns-2 : tie.Need-returns-2
 returns-2 c =
     let a = c .before .before .before .args in (
@@ -34,4 +28,4 @@ returns-3 c =
     )
 
 pub bit-read-spec : {M : Type 1} → statement M
-bit-read-spec = tie.close (tie.spec returns add-if2 shared-slice-read-if2 returns-2 returns-3)
+bit-read-spec = tie.close (tie.spec returns (λ c. search needs) (λ c. search needs) returns-2 returns-3)

@@ -43,20 +43,8 @@ loop-holds c = (refl, omega arith)
 mul-x : tie.Need-mul-x Inv-loop μ-loop
 mul-x c = omega (arith, fits c)
 
-bit-read-requires : tie.Need-bit-read-requires Inv-loop μ-loop
-bit-read-requires c κs = search needs
-
 add-x : tie.Need-add-x Inv-loop μ-loop
 add-x c = omega (arith, fits (c .before), c .bit-read .ensures .0)
-
-add-k : tie.Need-add-k Inv-loop μ-loop
-add-k c = omega arith
-
-sub-left : tie.Need-sub-left Inv-loop μ-loop
-sub-left c = omega arith
-
-loop-less : tie.Need-loop-less Inv-loop μ-loop
-loop-less c = omega arith
 
 loop-again : tie.Need-loop-again Inv-loop μ-loop
 loop-again c =
@@ -74,15 +62,5 @@ returns c =
 pub byte-read-spec : {M : Type 1} → statement M
 byte-read-spec =
     tie.close
-    (tie.spec
-    Inv-loop
-    μ-loop
-    loop-holds
-    mul-x
-    bit-read-requires
-    add-x
-    add-k
-    sub-left
-    loop-less
-    loop-again
+    (tie.spec Inv-loop μ-loop loop-holds mul-x (λ c κs. search needs) add-x (λ c. omega arith) (λ c. omega arith) (λ c. omega arith) loop-again
     returns)

@@ -25,12 +25,6 @@ abbrev μ-loop : tie.MeasureT-loop
 loop-holds : tie.Need-loop-holds Inv-loop μ-loop
 loop-holds c = let e : c .before .args .at + 0 ≡ c .before .args .at = omega arith in (omega arith, refl, rw e (c .before .pre .1), rw e)
 
-mul-hex-byte : tie.Need-mul-hex-byte Inv-loop μ-loop
-mul-hex-byte c = omega arith
-
-add-hex-byte : tie.Need-add-hex-byte Inv-loop μ-loop
-add-hex-byte c = omega arith
-
 hex-byte-requires : tie.Need-hex-byte-requires Inv-loop μ-loop
 hex-byte-requires c κs =
     let a = c .before .before .before .args in
@@ -39,15 +33,6 @@ hex-byte-requires c κs =
       high-hex (a .text .now) (a .at + 2 * l .i) (32 - 2 * l .i) (omega arith) (omega arith) (l .inv .2),
       low-hex (a .text .now) (a .at + 2 * l .i) (32 - 2 * l .i) (omega arith) (omega arith) (l .inv .2),
     )
-
-array-write-seed : tie.Need-array-write-seed Inv-loop μ-loop
-array-write-seed c = omega arith
-
-add-i : tie.Need-add-i Inv-loop μ-loop
-add-i c = omega arith
-
-loop-less : tie.Need-loop-less Inv-loop μ-loop
-loop-less c = omega arith
 
 loop-again : tie.Need-loop-again Inv-loop μ-loop
 loop-again c =
@@ -73,15 +58,5 @@ returns c =
 pub read-seed-spec : {M : Type 1} → statement M
 read-seed-spec =
     tie.close
-    (tie.spec
-    Inv-loop
-    μ-loop
-    loop-holds
-    mul-hex-byte
-    add-hex-byte
-    hex-byte-requires
-    array-write-seed
-    add-i
-    loop-less
-    loop-again
-    returns)
+    (tie.spec Inv-loop μ-loop loop-holds (λ c. omega arith) (λ c. omega arith) hex-byte-requires (λ c. omega arith) (λ c. omega arith)
+    (λ c. omega arith) loop-again returns)

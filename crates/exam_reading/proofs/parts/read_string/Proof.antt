@@ -6,18 +6,6 @@ use borrow.Author.Needs.{needs}
 use Rattle.exam_reading.proofs.parts.read_string.Statement.{statement}
 use Rattle.exam_reading.proofs.parts.read_string.Tie as tie
 
-byte-read-requires : tie.Need-byte-read-requires
-byte-read-requires c κs = search needs
-
-byte-read-requires-2 : tie.Need-byte-read-requires-2
-byte-read-requires-2 c κs = search needs
-
-byte-read-requires-3 : tie.Need-byte-read-requires-3
-byte-read-requires-3 c κs = search needs
-
-byte-read-requires-4 : tie.Need-byte-read-requires-4
-byte-read-requires-4 c κs = search needs
-
 returns : tie.Need-returns
 returns c =
     let a = c .before .before .before .before .before .args in
@@ -25,11 +13,4 @@ returns c =
     (c .before .byte-read3 .ensures) (c .byte-read4 .ensures)
 
 pub read-string-spec : {M : Type 1} → statement M
-read-string-spec =
-    tie.close
-    (tie.spec
-    byte-read-requires
-    byte-read-requires-2
-    byte-read-requires-3
-    byte-read-requires-4
-    returns)
+read-string-spec = tie.close (tie.spec (λ c κs. search needs) (λ c κs. search needs) (λ c κs. search needs) (λ c κs. search needs) returns)

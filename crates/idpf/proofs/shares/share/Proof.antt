@@ -27,9 +27,6 @@ all-well : (c : tie.Else1) →
     (length (start c .args .out .now))
 all-well c = let a = start c .args in ready (a .n) (a .expander) (a .seeds .now) (a .public-shares .now) (a .query .now) (length (a .out .now)) (clear c)
 
-share-cause-requires : tie.Need-share-cause-requires
-share-cause-requires c κs = search needs
-
 returns : tie.Need-returns
 returns c =
     let k = c .before in
@@ -42,29 +39,14 @@ returns c =
     (sym (ap length w))
     (sym (ap (λ (v : List ℕ). overlay v (a .out .now)) w ∙ overlay-nil (a .out .now)))
 
-choose-requires : tie.Need-choose-requires
-choose-requires c κs = search needs
-
-enum-known-e : tie.Need-enum-known-e
-enum-known-e c = search needs
-
 cast-write-sums : tie.Need-cast-write-sums
 cast-write-sums c = omega (arith, all-well (c .before .before .before .before) .not-longer)
 
 write-sums-requires : tie.Need-write-sums-requires
 write-sums-requires c κs = let r = all-well (c .before .before .before .before .before) in (r .a-query, r .fits)
 
-prefix-count-requires : tie.Need-prefix-count-requires
-prefix-count-requires c κs = search needs
-
 mul-t20 : tie.Need-mul-t20
 mul-t20 c = omega (arith, c .prefix-count .ensures .1)
-
-enum-told : tie.Need-enum-told
-enum-told c = search needs
-
-same-length : tie.Need-same-length
-same-length c = search needs
 
 returns-2 : tie.Need-returns-2
 returns-2 c =
@@ -92,16 +74,5 @@ returns-3 c =
 pub share-spec : {M : Type 1} → statement M
 share-spec =
     tie.close
-    (tie.spec
-    share-cause-requires
-    returns
-    choose-requires
-    enum-known-e
-    cast-write-sums
-    write-sums-requires
-    prefix-count-requires
-    mul-t20
-    enum-told
-    same-length
-    returns-2
-    returns-3)
+    (tie.spec (λ c κs. search needs) returns (λ c κs. search needs) (λ c. search needs) cast-write-sums write-sums-requires (λ c κs. search needs)
+    mul-t20 (λ c. search needs) (λ c. search needs) returns-2 returns-3)

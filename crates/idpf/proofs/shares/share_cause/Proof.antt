@@ -62,16 +62,10 @@ a-query c = sym (c .before .is-query .ensures) ∙ not-false _ (c .if7 .left)
 
 -- ---- the returns
 
-length-outside-requires : tie.Need-length-outside-requires
-length-outside-requires c κs = search needs
-
 returns : tie.Need-returns
 returns c =
     let a = c .before .before .before .before .before .args in
     cause-1 (a .n) (a .expander) (a .seeds .now) (a .shares .now) (a .query .now) (a .room) (sym (c .before .length-outside .ensures) ∙ c .if1 .taken)
-
-is-expander-requires : tie.Need-is-expander-requires
-is-expander-requires c κs = search needs
 
 returns-2 : tie.Need-returns-2
 returns-2 c =
@@ -83,9 +77,6 @@ returns-2 c =
 cast-levels : tie.Need-cast-levels
 cast-levels c = let e₁ = c .before .before in omega (arith, calls.bounds mostBits (start₁ e₁ .args .n) (bounds e₁) .1)
 
-wrong-lengths-requires : tie.Need-wrong-lengths-requires
-wrong-lengths-requires c κs = search needs
-
 returns-3 : tie.Need-returns-3
 returns-3 c =
     let e₂ = c .before .before in
@@ -93,9 +84,6 @@ returns-3 c =
     let a = start₁ e₁ .args in
     cause-4 (a .n) (a .expander) (a .seeds .now) (a .shares .now) (a .query .now) (a .room) (bounds e₁) (known e₂)
     (sym (c .before .wrong-lengths .ensures) ∙ c .if3 .taken)
-
-too-many-reports-requires : tie.Need-too-many-reports-requires
-too-many-reports-requires c κs = search needs
 
 returns-4 : tie.Need-returns-4
 returns-4 c =
@@ -105,12 +93,6 @@ returns-4 c =
     let a = start₁ e₁ .args in
     cause-5 (a .n) (a .expander) (a .seeds .now) (a .shares .now) (a .query .now) (a .room) (bounds e₁) (known e₂) (lengths e₃)
     (sym (c .before .too-many-reports .ensures) ∙ c .if4 .taken)
-
-all-payloads-below-requires : tie.Need-all-payloads-below-requires
-all-payloads-below-requires c κs = search needs
-
-all-spare-bits-zero-requires : tie.Need-all-spare-bits-zero-requires
-all-spare-bits-zero-requires c κs = search needs
 
 returns-5 : tie.Need-returns-5
 returns-5 c =
@@ -133,9 +115,6 @@ returns-6 c =
     cause-7 (a .n) (a .expander) (a .seeds .now) (a .shares .now) (a .query .now) (a .room) (bounds e₁) (known e₂) (lengths e₃) (few e₄) (payloads e₅)
     (not-false _ (sym (c .before .before .all-spare-bits-zero .ensures) ∙ not-true _ (c .if6 .taken)))
 
-is-query-requires : tie.Need-is-query-requires
-is-query-requires c κs = search needs
-
 returns-7 : tie.Need-returns-7
 returns-7 c =
     let e₆ = c .before .before in
@@ -147,9 +126,6 @@ returns-7 c =
     let a = start₁ e₁ .args in
     cause-9 (a .n) (a .expander) (a .seeds .now) (a .shares .now) (a .query .now) (a .room) (bounds e₁) (known e₂) (lengths e₃) (few e₄) (payloads e₅)
     (spares e₆) (sym (c .before .is-query .ensures) ∙ not-true _ (c .if7 .taken))
-
-prefix-count-requires : tie.Need-prefix-count-requires
-prefix-count-requires c κs = search needs
 
 mul-if8 : tie.Need-mul-if8
 mul-if8 c = omega (arith, c .prefix-count .ensures .1)
@@ -183,23 +159,6 @@ returns-9 c =
 pub share-cause-spec : {M : Type 1} → statement M
 share-cause-spec =
     tie.close
-    (tie.spec
-    length-outside-requires
-    returns
-    is-expander-requires
-    returns-2
-    cast-levels
-    wrong-lengths-requires
-    returns-3
-    too-many-reports-requires
-    returns-4
-    all-payloads-below-requires
-    all-spare-bits-zero-requires
-    returns-5
-    returns-6
-    is-query-requires
-    returns-7
-    prefix-count-requires
-    mul-if8
-    returns-8
-    returns-9)
+    (tie.spec (λ c κs. search needs) returns (λ c κs. search needs) returns-2 cast-levels (λ c κs. search needs) returns-3 (λ c κs. search needs)
+    returns-4 (λ c κs. search needs) (λ c κs. search needs) returns-5 returns-6 (λ c κs. search needs) returns-7 (λ c κs. search needs) mul-if8
+    returns-8 returns-9)

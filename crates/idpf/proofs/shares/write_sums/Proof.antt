@@ -19,16 +19,10 @@ Inv-loop e n server seeds shares query out₀ k count i₀ out i =
 abbrev μ-loop : tie.MeasureT-loop
 μ-loop e n server seeds shares query out₀ k count i₀ out i = count - i
 
-prefix-length-requires : tie.Need-prefix-length-requires Inv-loop μ-loop
-prefix-length-requires c κs = search needs
-
 cast-k : tie.Need-cast-k Inv-loop μ-loop
 cast-k c =
     let s = c .before .before .before .before .before in
     omega (arith, c .prefix-length .ensures .0, ready (s .args .n) (s .args .query .now) (s .pre .0) .not-longer)
-
-prefix-count-requires : tie.Need-prefix-count-requires Inv-loop μ-loop
-prefix-count-requires c κs = search needs
 
 loop-holds : tie.Need-loop-holds Inv-loop μ-loop
 loop-holds c =
@@ -44,9 +38,6 @@ write-sum-pair-requires c κs = omega (arith, c .before .before .before .prefix-
 
 add-i : tie.Need-add-i Inv-loop μ-loop
 add-i c = omega (arith, c .before .before .before .before .before .before .prefix-count .ensures .1)
-
-loop-less : tie.Need-loop-less Inv-loop μ-loop
-loop-less c = omega arith
 
 loop-again : tie.Need-loop-again Inv-loop μ-loop
 loop-again c =
@@ -114,20 +105,5 @@ returns-2 c =
 pub write-sums-spec : {M : Type 1} → statement M
 write-sums-spec =
     tie.close
-    (tie.spec
-    Inv-loop
-    μ-loop
-    prefix-length-requires
-    cast-k
-    prefix-count-requires
-    loop-holds
-    add-loop
-    write-sum-pair-requires
-    add-i
-    loop-less
-    loop-again
-    same-length
-    returns
-    write-sum-requires
-    same-length-2
-    returns-2)
+    (tie.spec Inv-loop μ-loop (λ c κs. search needs) cast-k (λ c κs. search needs) loop-holds add-loop write-sum-pair-requires add-i
+    (λ c. omega arith) loop-again same-length returns write-sum-requires same-length-2 returns-2)

@@ -5,15 +5,6 @@ use borrow.Author.Needs.{needs}
 use Rattle.keymaker.proofs.level.both_children.Statement.{statement}
 use Rattle.keymaker.proofs.level.both_children.Tie as tie
 
-two-blocks-requires : tie.Need-two-blocks-requires
-two-blocks-requires c κs = search needs
-
-split-requires : tie.Need-split-requires
-split-requires c κs = search needs
-
-split-requires-2 : tie.Need-split-requires-2
-split-requires-2 c κs = search needs
-
 returns : tie.Need-returns
 returns c =
     let b = c .before .before .before .before .two-blocks in
@@ -23,5 +14,4 @@ returns c =
     )
 
 pub both-children-spec : {M : Type 1} → statement M
-both-children-spec =
-    tie.close (tie.spec two-blocks-requires split-requires split-requires-2 returns)
+both-children-spec = tie.close (tie.spec (λ c κs. search needs) (λ c κs. search needs) (λ c κs. search needs) returns)

@@ -12,12 +12,6 @@ use borrow.Author.Needs.{needs}
 use Rattle.keymaker.proofs.level.finish.Statement.{statement}
 use Rattle.keymaker.proofs.level.finish.Tie as tie
 
-two-blocks-requires : tie.Need-two-blocks-requires
-two-blocks-requires c κs = search needs
-
-draw-requires : tie.Need-draw-requires
-draw-requires c κs = search needs
-
 returns : tie.Need-returns
 unfolding final payloadOf fieldScheme
 returns c =
@@ -25,4 +19,4 @@ returns c =
     (same-node (b .ensures .0) refl, c .draw .ensures .0 ∙ ap (λ (l : List ℕ). fromLittle (take 8 l) % p) (b .ensures .1))
 
 pub finish-spec : {M : Type 1} → statement M
-finish-spec = tie.close (tie.spec two-blocks-requires draw-requires returns)
+finish-spec = tie.close (tie.spec (λ c κs. search needs) (λ c κs. search needs) returns)

@@ -8,27 +8,6 @@ use borrow.Author.Needs.{needs}
 use Rattle.keymaker.proofs.level.kept_children.Statement.{statement}
 use Rattle.keymaker.proofs.level.kept_children.Tie as tie
 
-both-children-requires : tie.Need-both-children-requires
-both-children-requires c κs = search needs
-
-both-children-requires-2 : tie.Need-both-children-requires-2
-both-children-requires-2 c κs = search needs
-
-lose-seed-requires : tie.Need-lose-seed-requires
-lose-seed-requires c κs = search needs
-
-lose-seed-requires-2 : tie.Need-lose-seed-requires-2
-lose-seed-requires-2 c κs = search needs
-
-xor-requires : tie.Need-xor-requires
-xor-requires c κs = search needs
-
-keep-requires : tie.Need-keep-requires
-keep-requires c κs = search needs
-
-keep-requires-2 : tie.Need-keep-requires-2
-keep-requires-2 c κs = search needs
-
 returns : tie.Need-returns
 returns c =
     let a = c .before .before .before .before .before .before .before .before .before .before .before .before .before .before .before .before .before .before .before .args in
@@ -57,12 +36,5 @@ returns c =
 pub kept-children-spec : {M : Type 1} → statement M
 kept-children-spec =
     tie.close
-    (tie.spec
-    both-children-requires
-    both-children-requires-2
-    lose-seed-requires
-    lose-seed-requires-2
-    xor-requires
-    keep-requires
-    keep-requires-2
-    returns)
+    (tie.spec (λ c κs. search needs) (λ c κs. search needs) (λ c κs. search needs) (λ c κs. search needs) (λ c κs. search needs)
+    (λ c κs. search needs) (λ c κs. search needs) returns)

@@ -10,18 +10,6 @@ use borrow.Author.Needs.{needs}
 use Rattle.keymaker.proofs.level.next_level.Statement.{statement}
 use Rattle.keymaker.proofs.level.next_level.Tie as tie
 
-kept-children-requires : tie.Need-kept-children-requires
-kept-children-requires c κs = search needs
-
-finish-requires : tie.Need-finish-requires
-finish-requires c κs = search needs
-
-finish-requires-2 : tie.Need-finish-requires-2
-finish-requires-2 c κs = search needs
-
-payload-correction-requires : tie.Need-payload-correction-requires
-payload-correction-requires c κs = search needs
-
 returns : tie.Need-returns
 returns c =
     let a = c .before .before .before .before .before .before .before .before .before .args in
@@ -35,11 +23,4 @@ returns c =
     )
 
 pub next-level-spec : {M : Type 1} → statement M
-next-level-spec =
-    tie.close
-    (tie.spec
-    kept-children-requires
-    finish-requires
-    finish-requires-2
-    payload-correction-requires
-    returns)
+next-level-spec = tie.close (tie.spec (λ c κs. search needs) (λ c κs. search needs) (λ c κs. search needs) (λ c κs. search needs) returns)

@@ -6,18 +6,6 @@ use borrow.Author.Needs.{needs}
 use Rattle.keymaker.proofs.level.payload_correction.Statement.{statement}
 use Rattle.keymaker.proofs.level.payload_correction.Tie as tie
 
-negate-requires : tie.Need-negate-requires
-negate-requires c κs = search needs
-
-add-requires : tie.Need-add-requires
-add-requires c κs = search needs
-
-add-requires-2 : tie.Need-add-requires-2
-add-requires-2 c κs = search needs
-
-negate-requires-2 : tie.Need-negate-requires-2
-negate-requires-2 c κs = search needs
-
 returns : tie.Need-returns
 returns c =
     let d = c .before .before .add2 .ensures .0 ∙ ap (λ (x : ℕ). field .add x (c .before .before .before .before .before .args .w1)) (c .before .before .before .add .ensures .0 ∙ ap (λ (x : ℕ). field .add 1 x) (c .before .before .before .before .negate .ensures .0)) in
@@ -31,4 +19,4 @@ returns-2 c =
 pub payload-correction-spec : {M : Type 1} → statement M
 payload-correction-spec =
     tie.close
-    (tie.spec negate-requires add-requires add-requires-2 negate-requires-2 returns returns-2)
+    (tie.spec (λ c κs. search needs) (λ c κs. search needs) (λ c κs. search needs) (λ c κs. search needs) returns returns-2)

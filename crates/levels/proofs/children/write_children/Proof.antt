@@ -121,9 +121,6 @@ same-bits r =
 
 -- ---- the needs
 
-packed-length-requires : tie.Need-packed-length-requires Inv-loop μ-loop
-packed-length-requires c κs = search needs
-
 loop-holds : tie.Need-loop-holds Inv-loop μ-loop
 loop-holds c =
     let s = c .before .before in
@@ -135,18 +132,6 @@ read-prefix-requires c κs =
     let i = c .before in
     (omega (arith, i .before .before .packed-length .ensures, start i .pre .0 .0), omega (arith, area-length i, room i .0, within i))
 
-read-le8-requires : tie.Need-read-le8-requires Inv-loop μ-loop
-read-le8-requires c κs = search needs
-
-reaches-requires : tie.Need-reaches-requires Inv-loop μ-loop
-reaches-requires c κs = search needs
-
-slice-aggregate-write-both-children : tie.Need-slice-aggregate-write-both-children Inv-loop μ-loop
-slice-aggregate-write-both-children c = search needs
-
-write-both-children-requires : tie.Need-write-both-children-requires Inv-loop μ-loop
-write-both-children-requires c κs = search needs
-
 add-source : tie.Need-add-source Inv-loop μ-loop
 add-source c =
     let i = loop-at (c .before .before .before .before .before) in
@@ -156,12 +141,6 @@ add-total : tie.Need-add-total Inv-loop μ-loop
 add-total c =
     let i = loop-at (c .before .before .before .before .before) in
     omega (arith, i .before .loop .inv .1, i .loop-test .taken, within i, start i .good .1 .0 .0)
-
-sub-left : tie.Need-sub-left Inv-loop μ-loop
-sub-left c = omega arith
-
-loop-less : tie.Need-loop-less Inv-loop μ-loop
-loop-less c = omega arith
 
 loop-again : tie.Need-loop-again Inv-loop μ-loop
 loop-again c =
@@ -192,20 +171,5 @@ returns c =
 pub write-children-spec : {M : Type 1} → statement M
 write-children-spec =
     tie.close
-    (tie.spec
-    Inv-loop
-    μ-loop
-    packed-length-requires
-    loop-holds
-    read-prefix-requires
-    read-le8-requires
-    reaches-requires
-    slice-aggregate-write-both-children
-    write-both-children-requires
-    add-source
-    add-total
-    sub-left
-    loop-less
-    loop-again
-    same-length
-    returns)
+    (tie.spec Inv-loop μ-loop (λ c κs. search needs) loop-holds read-prefix-requires (λ c κs. search needs) (λ c κs. search needs)
+    (λ c. search needs) (λ c κs. search needs) add-source add-total (λ c. omega arith) (λ c. omega arith) loop-again same-length returns)

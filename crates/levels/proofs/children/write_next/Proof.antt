@@ -6,15 +6,6 @@ use Rattle.levels.proofs.Asking.{children-room, next-put}
 use Rattle.levels.proofs.children.write_next.Statement.{statement}
 use Rattle.levels.proofs.children.write_next.Tie as tie
 
-mul-write-fields : tie.Need-mul-write-fields
-mul-write-fields c = search needs
-
-write-fields-requires : tie.Need-write-fields-requires
-write-fields-requires c κs = search needs
-
-add-write-children : tie.Need-add-write-children
-add-write-children c = search needs
-
 write-children-requires : tie.Need-write-children-requires
 write-children-requires c κs =
     let w = c .before .before .before in
@@ -24,9 +15,6 @@ write-children-requires c κs =
       children-room (reachesBy (a .rule)) (a .k) (a .area .now) (a .count) (a .from) (a .place) (a .at) (a .kept) (s .pre .0 .1) (s .pre .0 .2) (s .pre .1 .0) (s .pre .1 .1) _
           (w .write-fields .ensures),
     )
-
-same-length : tie.Need-same-length
-same-length c = search needs
 
 returns : tie.Need-returns
 returns c =
@@ -40,10 +28,4 @@ returns c =
 pub write-next-spec : {M : Type 1} → statement M
 write-next-spec =
     tie.close
-    (tie.spec
-    mul-write-fields
-    write-fields-requires
-    add-write-children
-    write-children-requires
-    same-length
-    returns)
+    (tie.spec (λ c. search needs) (λ c κs. search needs) (λ c. search needs) write-children-requires (λ c. search needs) returns)

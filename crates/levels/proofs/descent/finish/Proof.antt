@@ -20,9 +20,6 @@ size : (p : tie.After-packed-length) → start p .args .kept * p .packed-length 
     ≡ length (packs (reachingAt (reachesBy (start p .args .rule)) (start p .args .k) (start p .args .area .now) (start p .args .count) (start p .args .from) (start p .args .place)))
 size p = ap (λ (w : ℕ). start p .args .kept * w) (p .packed-length .ensures) ∙ start p .pre .1 .1
 
-packed-length-requires : tie.Need-packed-length-requires
-packed-length-requires c κs = search needs
-
 mul-size : tie.Need-mul-size
 mul-size c =
     let a = start c .args in
@@ -36,15 +33,6 @@ write-list-requires c κs =
     let p = c .before .before in
     ((start p .pre .0 .0, start p .pre .0 .1), (start p .pre .1 .0, rw (← size p) (c .before .if1 .left)))
 
-mul-t10 : tie.Need-mul-t10
-mul-t10 c = search needs
-
-add-t15 : tie.Need-add-t15
-add-t15 c = search needs
-
-same-length : tie.Need-same-length
-same-length c = search needs
-
 returns-2 : tie.Need-returns-2
 returns-2 c =
     let l = c .before .before in
@@ -54,12 +42,4 @@ returns-2 c =
 pub finish-spec : {M : Type 1} → statement M
 finish-spec =
     tie.close
-    (tie.spec
-    packed-length-requires
-    mul-size
-    returns
-    write-list-requires
-    mul-t10
-    add-t15
-    same-length
-    returns-2)
+    (tie.spec (λ c κs. search needs) mul-size returns write-list-requires (λ c. search needs) (λ c. search needs) (λ c. search needs) returns-2)

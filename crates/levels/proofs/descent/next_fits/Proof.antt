@@ -27,18 +27,6 @@ few p =
 returns : tie.Need-returns
 returns c = rw (lt-leb _ _ (c .if1 .taken))
 
-mul-need : tie.Need-mul-need
-mul-need c = search needs
-
-add-packed-length : tie.Need-add-packed-length
-add-packed-length c = search needs
-
-packed-length-requires : tie.Need-packed-length-requires
-packed-length-requires c κs = search needs
-
-add-need : tie.Need-add-need
-add-need c = search needs
-
 mul-need-2 : tie.Need-mul-need-2
 mul-need-2 c = omega (arith, few c)
 
@@ -63,13 +51,4 @@ returns-3 c =
 pub next-fits-spec : {M : Type 1} → statement M
 next-fits-spec =
     tie.close
-    (tie.spec
-    returns
-    mul-need
-    add-packed-length
-    packed-length-requires
-    add-need
-    mul-need-2
-    add-need-2
-    returns-2
-    returns-3)
+    (tie.spec returns (λ c. search needs) (λ c. search needs) (λ c κs. search needs) (λ c. search needs) mul-need-2 add-need-2 returns-2 returns-3)

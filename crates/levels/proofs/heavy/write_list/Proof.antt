@@ -82,23 +82,11 @@ turn k =
 
 -- ---- the needs
 
-packed-length-requires : tie.Need-packed-length-requires Inv-loop μ-loop
-packed-length-requires c κs = search needs
-
 loop-holds : tie.Need-loop-holds Inv-loop μ-loop
 loop-holds c =
     let s = c .before .before .before in
     let a = s .args in
     (rw (c .packed-length .ensures) (s .pre .0 .0), s .pre .0 .1, s .pre .1 .0, grown-start (a .list .now) 0 _)
-
-read-le8-requires : tie.Need-read-le8-requires Inv-loop μ-loop
-read-le8-requires c κs = search needs
-
-reaches-requires : tie.Need-reaches-requires Inv-loop μ-loop
-reaches-requires c κs = search needs
-
-write-prefix-requires : tie.Need-write-prefix-requires Inv-loop μ-loop
-write-prefix-requires c κs = search needs
 
 add-source : tie.Need-add-source Inv-loop μ-loop
 add-source c =
@@ -109,12 +97,6 @@ add-total : tie.Need-add-total Inv-loop μ-loop
 add-total c =
     let i = c .before .before .before .before .before .before in
     omega (arith, i .before .loop .inv .1, i .loop-test .taken, start i .good .1 .0 .0)
-
-sub-left : tie.Need-sub-left Inv-loop μ-loop
-sub-left c = omega arith
-
-loop-less : tie.Need-loop-less Inv-loop μ-loop
-loop-less c = omega arith
 
 loop-again : tie.Need-loop-again Inv-loop μ-loop
 loop-again c =
@@ -146,18 +128,5 @@ returns c =
 pub write-list-spec : {M : Type 1} → statement M
 write-list-spec =
     tie.close
-    (tie.spec
-    Inv-loop
-    μ-loop
-    packed-length-requires
-    loop-holds
-    read-le8-requires
-    reaches-requires
-    write-prefix-requires
-    add-source
-    add-total
-    sub-left
-    loop-less
-    loop-again
-    same-length
-    returns)
+    (tie.spec Inv-loop μ-loop (λ c κs. search needs) loop-holds (λ c κs. search needs) (λ c κs. search needs) (λ c κs. search needs) add-source
+    add-total (λ c. omega arith) (λ c. omega arith) loop-again same-length returns)

@@ -4,24 +4,6 @@ use Rattle.levels.proofs.LevelTotals.{total-sums}
 use Rattle.levels.proofs.sums.totals_of.Statement.{statement}
 use Rattle.levels.proofs.sums.totals_of.Tie as tie
 
-slice-aggregate-server-sums : tie.Need-slice-aggregate-server-sums
-slice-aggregate-server-sums c = search needs
-
-server-sums-requires : tie.Need-server-sums-requires
-server-sums-requires c κs = search needs
-
-slice-aggregate-server-sums-2 : tie.Need-slice-aggregate-server-sums-2
-slice-aggregate-server-sums-2 c = search needs
-
-server-sums-requires-2 : tie.Need-server-sums-requires-2
-server-sums-requires-2 c κs = search needs
-
-add-requires : tie.Need-add-requires
-add-requires c κs = search needs
-
-add-requires-2 : tie.Need-add-requires-2
-add-requires-2 c κs = search needs
-
 returns : tie.Need-returns
 returns c =
     let one = c .before .before in
@@ -37,11 +19,5 @@ returns c =
 pub totals-of-spec : {M : Type 1} → statement M
 totals-of-spec =
     tie.close
-    (tie.spec
-    slice-aggregate-server-sums
-    server-sums-requires
-    slice-aggregate-server-sums-2
-    server-sums-requires-2
-    add-requires
-    add-requires-2
+    (tie.spec (λ c. search needs) (λ c κs. search needs) (λ c. search needs) (λ c κs. search needs) (λ c κs. search needs) (λ c κs. search needs)
     returns)

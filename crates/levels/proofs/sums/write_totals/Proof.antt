@@ -52,9 +52,6 @@ room l h =
 
 -- ---- the needs
 
-packed-length-requires : tie.Need-packed-length-requires Inv-loop μ-loop
-packed-length-requires c κs = search needs
-
 loop-holds : tie.Need-loop-holds Inv-loop μ-loop
 loop-holds c =
     let s = c .before .before .before .before .before .before in
@@ -97,9 +94,6 @@ add-here c =
 sub-left : tie.Need-sub-left Inv-loop μ-loop
 sub-left c = omega (arith, c .before .before .before .before .before .loop .inv .paired)
 
-loop-less : tie.Need-loop-less Inv-loop μ-loop
-loop-less c = omega arith
-
 loop-again : tie.Need-loop-again Inv-loop μ-loop
 loop-again c =
     let w = c .before .before in
@@ -124,18 +118,5 @@ returns c =
 pub write-totals-spec : {M : Type 1} → statement M
 write-totals-spec =
     tie.close
-    (tie.spec
-    Inv-loop
-    μ-loop
-    packed-length-requires
-    loop-holds
-    write-total-pair-requires
-    add-kept
-    mul-source
-    add-source
-    add-here
-    sub-left
-    loop-less
-    loop-again
-    same-length
-    returns)
+    (tie.spec Inv-loop μ-loop (λ c κs. search needs) loop-holds write-total-pair-requires add-kept mul-source add-source add-here sub-left
+    (λ c. omega arith) loop-again same-length returns)

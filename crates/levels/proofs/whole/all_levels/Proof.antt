@@ -20,9 +20,6 @@ returns c =
     let a = s .args in
     first-refused (reachesBy (a .rule)) (total s) (a .n) (s .pre .0) (a .area .now) (a .list .now) (c .if1 .taken)
 
-write-first-requires : tie.Need-write-first-requires
-write-first-requires c κs = search needs
-
 descend-requires : tie.Need-descend-requires
 descend-requires c κs =
     let w = c .before .before .before .before in
@@ -30,12 +27,6 @@ descend-requires c κs =
     let s = start (i .before) in
     let a = s .args in
     first-asked (reachesBy (a .rule)) (total s) (a .n) (s .pre .0) (a .area .now) (a .list .now) (i .if1 .left) _ (w .write-first .ensures) (s .pre .1)
-
-same-length : tie.Need-same-length
-same-length c = search needs
-
-same-length-2 : tie.Need-same-length-2
-same-length-2 c = search needs
 
 returns-2 : tie.Need-returns-2
 returns-2 c =
@@ -47,6 +38,4 @@ returns-2 c =
     first-answered (reachesBy (a .rule)) (total s) (a .n) (s .pre .0) (a .area .now) (a .list .now) (i .if1 .left) _ (w .write-first .ensures) _ _ _ _ _ (r .descend .ensures)
 
 pub all-levels-spec : {M : Type 1} → statement M
-all-levels-spec =
-    tie.close
-    (tie.spec returns write-first-requires descend-requires same-length same-length-2 returns-2)
+all-levels-spec = tie.close (tie.spec returns (λ c κs. search needs) descend-requires (λ c. search needs) (λ c. search needs) returns-2)

@@ -5,17 +5,8 @@ use Rattle.levels.proofs.Opening.{first-bytes}
 use Rattle.levels.proofs.whole.write_first.Statement.{statement}
 use Rattle.levels.proofs.whole.write_first.Tie as tie
 
-slice-aggregate-copy : tie.Need-slice-aggregate-copy
-slice-aggregate-copy c = search needs
-
-copy-requires : tie.Need-copy-requires
-copy-requires c κs = search needs
-
-same-length : tie.Need-same-length
-same-length c = search needs
-
 returns : tie.Need-returns
 returns c = c .before .before .copy .ensures ∙ rw first-bytes
 
 pub write-first-spec : {M : Type 1} → statement M
-write-first-spec = tie.close (tie.spec slice-aggregate-copy copy-requires same-length returns)
+write-first-spec = tie.close (tie.spec (λ c. search needs) (λ c κs. search needs) (λ c. search needs) returns)

@@ -36,12 +36,6 @@ both-room c = inside _ _ _ _ (c .before .within2 .ensures) (c .if3 .left)
 returns : tie.Need-returns
 returns c = let a = c .before .before .before .args in rw (not-true (a .kept) (c .if1 .taken)) (none-written (a .out .now) (a .at))
 
-child-length-requires : tie.Need-child-length-requires
-child-length-requires c κs = search needs
-
-within-requires : tie.Need-within-requires
-within-requires c κs = search needs
-
 returns-2 : tie.Need-returns-2
 returns-2 c =
     let k = c .before .before in
@@ -52,9 +46,6 @@ returns-2 c =
 add-second : tie.Need-add-second
 add-second c = omega (arith, room c)
 
-within-requires-2 : tie.Need-within-requires-2
-within-requires-2 c κs = search needs
-
 returns-3 : tie.Need-returns-3
 returns-3 c =
     let k = c .before .before .before .before in
@@ -63,17 +54,8 @@ returns-3 c =
     outside _ _ _ _ (c .before .within2 .ensures) (c .if3 .taken) in
     rw (not-false (a .kept) (k .before .if1 .left)) (not-written (a .out .now) (a .at) (bothChildren (string k)) (omega (arith, o, size k)))
 
-write-child-requires : tie.Need-write-child-requires
-write-child-requires c κs = search needs
-
-write-child-requires-2 : tie.Need-write-child-requires-2
-write-child-requires-2 c κs = search needs
-
 add-result : tie.Need-add-result
 add-result c = omega (arith, both-room (c .before .before .before .before .before .before .before .before))
-
-same-length : tie.Need-same-length
-same-length c = search needs
 
 returns-4 : tie.Need-returns-4
 returns-4 c =
@@ -90,16 +72,5 @@ returns-4 c =
 pub write-both-children-spec : {M : Type 1} → statement M
 write-both-children-spec =
     tie.close
-    (tie.spec
-    returns
-    child-length-requires
-    within-requires
-    returns-2
-    add-second
-    within-requires-2
-    returns-3
-    write-child-requires
-    write-child-requires-2
-    add-result
-    same-length
-    returns-4)
+    (tie.spec returns (λ c κs. search needs) (λ c κs. search needs) returns-2 add-second (λ c κs. search needs) returns-3 (λ c κs. search needs)
+    (λ c κs. search needs) add-result (λ c. search needs) returns-4)

@@ -16,26 +16,14 @@ use Rattle.query.proofs.writing.write_fields.Tie as tie
 room : (c : tie.Else1) → c .before .before .before .args .at + 6 ≤ length (c .before .before .before .args .out .now)
 room c = inside _ _ _ _ (c .before .within .ensures) (c .if1 .left)
 
-within-requires : tie.Need-within-requires
-within-requires c κs = search needs
-
 returns : tie.Need-returns
 unfolding big
 returns c =
     let a = c .before .before .before .args in
     sym (putAt-outside (a .out .now) (a .at) (big 2 (a .k) ++ big 4 (a .count)) (outside _ _ _ _ (c .before .within .ensures) (c .if1 .taken)))
 
-write-be2-requires : tie.Need-write-be2-requires
-write-be2-requires c κs = search needs
-
 add-write-be4 : tie.Need-add-write-be4
 add-write-be4 c = omega (arith, room (c .before .before .before .before .before))
-
-write-be4-requires : tie.Need-write-be4-requires
-write-be4-requires c κs = search needs
-
-same-length : tie.Need-same-length
-same-length c = search needs
 
 returns-2 : tie.Need-returns-2
 unfolding big
@@ -50,11 +38,4 @@ returns-2 c =
 pub write-fields-spec : {M : Type 1} → statement M
 write-fields-spec =
     tie.close
-    (tie.spec
-    within-requires
-    returns
-    write-be2-requires
-    add-write-be4
-    write-be4-requires
-    same-length
-    returns-2)
+    (tie.spec (λ c κs. search needs) returns (λ c κs. search needs) add-write-be4 (λ c κs. search needs) (λ c. search needs) returns-2)

@@ -25,18 +25,12 @@ room c = inside _ _ _ _ (c .before .within2 .ensures) (c .if3 .left)
 returns : tie.Need-returns
 returns c = let a = c .before .before .before .args in rw (not-true (a .kept) (c .if1 .taken)) (none-written (a .out .now) (a .at))
 
-within-requires : tie.Need-within-requires
-within-requires c κs = search needs
-
 returns-2 : tie.Need-returns-2
 returns-2 c =
     let e = c .before .before in
     let a = start e .args in
     let o = part-outside (a .w) (a .from) (a .source .now) (outside _ _ _ _ (c .before .within .ensures) (c .if2 .taken)) in
     rw (not-false (a .kept) (e .if1 .left), o) (none-written (a .out .now) (a .at))
-
-within-requires-2 : tie.Need-within-requires-2
-within-requires-2 c κs = search needs
 
 returns-3 : tie.Need-returns-3
 returns-3 c =
@@ -50,23 +44,11 @@ returns-3 c =
 add-end : tie.Need-add-end
 add-end c = omega (arith, source-room (c .before .before))
 
-sub-copy : tie.Need-sub-copy
-sub-copy c = search needs
-
-part-copy-start : tie.Need-part-copy-start
-part-copy-start c = search needs
-
 part-copy-end : tie.Need-part-copy-end
 part-copy-end c = omega (arith, source-room (c .before .before))
 
-copy-requires : tie.Need-copy-requires
-copy-requires c κs = search needs
-
 add-result : tie.Need-add-result
 add-result c = omega (arith, room (c .before .before .before .before .before))
-
-same-length : tie.Need-same-length
-same-length c = search needs
 
 returns-4 : tie.Need-returns-4
 returns-4 c =
@@ -83,17 +65,5 @@ returns-4 c =
 pub write-prefix-spec : {M : Type 1} → statement M
 write-prefix-spec =
     tie.close
-    (tie.spec
-    returns
-    within-requires
-    returns-2
-    within-requires-2
-    returns-3
-    add-end
-    sub-copy
-    part-copy-start
-    part-copy-end
-    copy-requires
-    add-result
-    same-length
-    returns-4)
+    (tie.spec returns (λ c κs. search needs) returns-2 (λ c κs. search needs) returns-3 add-end (λ c. search needs) (λ c. search needs) part-copy-end
+    (λ c κs. search needs) add-result (λ c. search needs) returns-4)

@@ -27,12 +27,6 @@ Inv-loop payloads n seeds shares size count i₀ i = (i ≤ count) × (every i (
 abbrev μ-loop : tie.MeasureT-loop
 μ-loop payloads n seeds shares size count i₀ i = count - i
 
-public-share-length-requires : tie.Need-public-share-length-requires Inv-loop μ-loop
-public-share-length-requires c κs = search needs
-
-report-count-requires : tie.Need-report-count-requires Inv-loop μ-loop
-report-count-requires c κs = search needs
-
 -- the next public share lies within
 room : (c : tie.In-loop Inv-loop μ-loop) →
     c .before .before .before .public-share-length .result * c .before .loop .i + publicShareLength (c .before .before .before .before .before .before .args .n)
@@ -63,12 +57,6 @@ returns c =
     (ap (test (a .payloads) (a .n)) (share-part (a .n) (a .shares .now) (l .loop .i) (h .before .public-share-length .ensures))
     ∙ sym (c .before .passes-at .ensures) ∙ not-true _ (c .if1 .taken))
 
-add-i : tie.Need-add-i Inv-loop μ-loop
-add-i c = omega arith
-
-loop-less : tie.Need-loop-less Inv-loop μ-loop
-loop-less c = omega arith
-
 loop-again : tie.Need-loop-again Inv-loop μ-loop
 loop-again c =
     let l = c .before .before .before in
@@ -91,16 +79,5 @@ returns-2 c =
 pub all-pass-spec : {M : Type 1} → statement M
 all-pass-spec =
     tie.close
-    (tie.spec
-    Inv-loop
-    μ-loop
-    public-share-length-requires
-    report-count-requires
-    loop-holds
-    mul-passes-at
-    passes-at-requires
-    returns
-    add-i
-    loop-less
-    loop-again
-    returns-2)
+    (tie.spec Inv-loop μ-loop (λ c κs. search needs) (λ c κs. search needs) loop-holds mul-passes-at passes-at-requires returns (λ c. omega arith)
+    (λ c. omega arith) loop-again returns-2)

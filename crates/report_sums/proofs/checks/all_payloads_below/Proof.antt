@@ -5,11 +5,8 @@ use Rattle.report_sums.proofs.ReportChecks.{not-failed}
 use Rattle.report_sums.proofs.checks.all_payloads_below.Statement.{statement}
 use Rattle.report_sums.proofs.checks.all_payloads_below.Tie as tie
 
-all-pass-requires : tie.Need-all-pass-requires
-all-pass-requires c κs = search needs
-
 returns : tie.Need-returns
 returns c = c .all-pass .ensures ∙ not-failed _
 
 pub all-payloads-below-spec : {M : Type 1} → statement M
-all-payloads-below-spec = tie.close (tie.spec all-pass-requires returns)
+all-payloads-below-spec = tie.close (tie.spec (λ c κs. search needs) returns)

@@ -5,11 +5,8 @@ use Rattle.report_sums.proofs.ReportChecks.{not-failed}
 use Rattle.report_sums.proofs.checks.all_spare_bits_zero.Statement.{statement}
 use Rattle.report_sums.proofs.checks.all_spare_bits_zero.Tie as tie
 
-all-pass-requires : tie.Need-all-pass-requires
-all-pass-requires c κs = search needs
-
 returns : tie.Need-returns
 returns c = c .all-pass .ensures ∙ not-failed _
 
 pub all-spare-bits-zero-spec : {M : Type 1} → statement M
-all-spare-bits-zero-spec = tie.close (tie.spec all-pass-requires returns)
+all-spare-bits-zero-spec = tie.close (tie.spec (λ c κs. search needs) returns)

@@ -7,32 +7,11 @@ use borrow.Author.Needs.{needs}
 use Rattle.report_sums.proofs.checks.passes_at.Statement.{statement}
 use Rattle.report_sums.proofs.checks.passes_at.Tie as tie
 
-public-share-length-requires : tie.Need-public-share-length-requires
-public-share-length-requires c κs = search needs
-
-add-end : tie.Need-add-end
-add-end c = search needs
-
-sub-share : tie.Need-sub-share
-sub-share c = search needs
-
-part-share-start : tie.Need-part-share-start
-part-share-start c = search needs
-
-part-share-end : tie.Need-part-share-end
-part-share-end c = search needs
-
-payloads-below-requires : tie.Need-payloads-below-requires
-payloads-below-requires c κs = search needs
-
 returns : tie.Need-returns
 returns c =
     let a = c .before .before .before .before .before .args in
     let e : a .at + c .before .before .before .public-share-length .result - a .at ≡ publicShareLength (a .n) = omega arith in
     c .payloads-below .ensures ∙ rw (e, c .before .if1 .taken)
-
-spare-bits-zero-requires : tie.Need-spare-bits-zero-requires
-spare-bits-zero-requires c κs = search needs
 
 returns-2 : tie.Need-returns-2
 returns-2 c =
@@ -43,13 +22,5 @@ returns-2 c =
 pub passes-at-spec : {M : Type 1} → statement M
 passes-at-spec =
     tie.close
-    (tie.spec
-    public-share-length-requires
-    add-end
-    sub-share
-    part-share-start
-    part-share-end
-    payloads-below-requires
-    returns
-    spare-bits-zero-requires
-    returns-2)
+    (tie.spec (λ c κs. search needs) (λ c. search needs) (λ c. search needs) (λ c. search needs) (λ c. search needs) (λ c κs. search needs) returns
+    (λ c κs. search needs) returns-2)

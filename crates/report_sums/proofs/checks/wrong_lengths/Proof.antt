@@ -4,9 +4,6 @@ use borrow.Author.Needs.{needs}
 use Rattle.report_sums.proofs.checks.wrong_lengths.Statement.{statement}
 use Rattle.report_sums.proofs.checks.wrong_lengths.Tie as tie
 
-public-share-length-requires : tie.Need-public-share-length-requires
-public-share-length-requires c κs = search needs
-
 returns : tie.Need-returns
 returns c =
     let s = c .before in
@@ -25,17 +22,11 @@ returns-3 c =
     let a = s .before .before .before .args in
     some-seeds (a .n) (a .seeds .now) (a .shares .now) (s .public-share-length .ensures) (c .before .before .if1 .left) (c .before .if2 .taken) (c .if3 .left)
 
-rem-if4 : tie.Need-rem-if4
-rem-if4 c = search needs
-
 returns-4 : tie.Need-returns-4
 returns-4 c =
     let s = c .before .before .before in
     let a = s .before .before .before .args in
     odd-shares (a .n) (a .seeds .now) (a .shares .now) (s .public-share-length .ensures) (c .before .before .if1 .left) (c .if4 .taken)
-
-div-result : tie.Need-div-result
-div-result c = search needs
 
 returns-5 : tie.Need-returns-5
 returns-5 c =
@@ -46,4 +37,4 @@ returns-5 c =
 pub wrong-lengths-spec : {M : Type 1} → statement M
 wrong-lengths-spec =
     tie.close
-    (tie.spec public-share-length-requires returns returns-2 returns-3 rem-if4 returns-4 div-result returns-5)
+    (tie.spec (λ c κs. search needs) returns returns-2 returns-3 (λ c. search needs) returns-4 (λ c. search needs) returns-5)

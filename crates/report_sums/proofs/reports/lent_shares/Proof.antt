@@ -18,32 +18,14 @@ room c =
     let a = s .args in
     share-inside (a .n) (a .seeds .now) (a .shares .now) (a .i) (s .pre) (c .public-share-length .ensures)
 
-public-share-length-requires : tie.Need-public-share-length-requires
-public-share-length-requires c κs = search needs
-
 mul-start : tie.Need-mul-start
 mul-start c = omega (arith, room c)
 
 add-end : tie.Need-add-end
 add-end c = omega (arith, room c)
 
-mul-read16 : tie.Need-mul-read16
-mul-read16 c = search needs
-
-read16-requires : tie.Need-read16-requires
-read16-requires c κs = search needs
-
-sub-shares-at : tie.Need-sub-shares-at
-sub-shares-at c = search needs
-
-part-shares-at-start : tie.Need-part-shares-at-start
-part-shares-at-start c = search needs
-
 part-shares-at-end : tie.Need-part-shares-at-end
 part-shares-at-end c = omega (arith, room (c .before))
-
-shares-at-requires : tie.Need-shares-at-requires
-shares-at-requires c κs = search needs
 
 returns : tie.Need-returns
 returns c =
@@ -61,14 +43,5 @@ returns c =
 pub lent-shares-spec : {M : Type 1} → statement M
 lent-shares-spec =
     tie.close
-    (tie.spec
-    public-share-length-requires
-    mul-start
-    add-end
-    mul-read16
-    read16-requires
-    sub-shares-at
-    part-shares-at-start
-    part-shares-at-end
-    shares-at-requires
-    returns)
+    (tie.spec (λ c κs. search needs) mul-start add-end (λ c. search needs) (λ c κs. search needs) (λ c. search needs) (λ c. search needs)
+    part-shares-at-end (λ c κs. search needs) returns)

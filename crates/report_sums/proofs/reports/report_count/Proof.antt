@@ -4,17 +4,11 @@ use borrow.Author.Needs.{needs}
 use Rattle.report_sums.proofs.reports.report_count.Statement.{statement}
 use Rattle.report_sums.proofs.reports.report_count.Tie as tie
 
-public-share-length-requires : tie.Need-public-share-length-requires
-public-share-length-requires c κs = search needs
-
 returns : tie.Need-returns
 returns c =
     let h = c .before in
     let a = h .before .before .before .args in
     count-none (a .n) (a .seeds .now) (a .shares .now) (h .public-share-length .ensures) (c .if1 .taken)
-
-div-share-count : tie.Need-div-share-count
-div-share-count c = search needs
 
 returns-2 : tie.Need-returns-2
 returns-2 c =
@@ -29,5 +23,4 @@ returns-3 c =
     count-shares (a .n) (a .seeds .now) (a .shares .now) (h .public-share-length .ensures) (c .if2 .left)
 
 pub report-count-spec : {M : Type 1} → statement M
-report-count-spec =
-    tie.close (tie.spec public-share-length-requires returns div-share-count returns-2 returns-3)
+report-count-spec = tie.close (tie.spec (λ c κs. search needs) returns (λ c. search needs) returns-2 returns-3)

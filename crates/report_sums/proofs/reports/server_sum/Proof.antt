@@ -3,11 +3,8 @@ use borrow.Author.Needs.{needs}
 use Rattle.report_sums.proofs.reports.server_sum.Statement.{statement}
 use Rattle.report_sums.proofs.reports.server_sum.Tie as tie
 
-server-sums-requires : tie.Need-server-sums-requires
-server-sums-requires c κs = search needs
-
 returns : tie.Need-returns
 returns c = c .server-sums .ensures .0
 
 pub server-sum-spec : {M : Type 1} → statement M
-server-sum-spec = tie.close (tie.spec server-sums-requires returns)
+server-sum-spec = tie.close (tie.spec (λ c κs. search needs) returns)

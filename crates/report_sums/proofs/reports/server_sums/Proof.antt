@@ -26,9 +26,6 @@ abbrev μ-loop : tie.MeasureT-loop
 abbrev part : tie.Start Inv-loop μ-loop → List ℕ → ℕ → ℕ
 part s prefix = lentShare (s .args .e) (s .args .n) (s .args .b) (s .args .seeds .now) (s .args .shares .now) (bitOf (bitsOf prefix)) (s .args .k)
 
-report-count-requires : tie.Need-report-count-requires Inv-loop μ-loop
-report-count-requires c κs = search needs
-
 loop-holds : tie.Need-loop-holds Inv-loop μ-loop
 loop-holds c =
     let s = c .before .before .before .before .before .before in
@@ -37,15 +34,6 @@ loop-holds c =
 
 with-report-requires : tie.Need-with-report-requires Inv-loop μ-loop
 with-report-requires c κs = omega (arith, c .before .before .report-count .ensures)
-
-add-i : tie.Need-add-i Inv-loop μ-loop
-add-i c = omega arith
-
-sub-left : tie.Need-sub-left Inv-loop μ-loop
-sub-left c = omega arith
-
-loop-less : tie.Need-loop-less Inv-loop μ-loop
-loop-less c = omega arith
 
 loop-again : tie.Need-loop-again Inv-loop μ-loop
 loop-again c =
@@ -74,14 +62,5 @@ returns c =
 pub server-sums-spec : {M : Type 1} → statement M
 server-sums-spec =
     tie.close
-    (tie.spec
-    Inv-loop
-    μ-loop
-    report-count-requires
-    loop-holds
-    with-report-requires
-    add-i
-    sub-left
-    loop-less
-    loop-again
-    returns)
+    (tie.spec Inv-loop μ-loop (λ c κs. search needs) loop-holds with-report-requires (λ c. omega arith) (λ c. omega arith) (λ c. omega arith)
+    loop-again returns)

@@ -8,24 +8,12 @@ use Rattle.report_sums.specs.Reports.{counts}
 use Rattle.report_sums.proofs.reports.with_report.Statement.{statement}
 use Rattle.report_sums.proofs.reports.with_report.Tie as tie
 
-byte-at-requires : tie.Need-byte-at-requires
-byte-at-requires c κs = search needs
-
 returns : tie.Need-returns
 returns c =
     let m = c .before in
     let a = m .before .before .before .before .before .before .args in
     let off : counts (a .marks .now) (a .i) ≡ false = ne-eqb _ 0 (λ z. c .if1 .taken (m .byte-at .ensures ∙ z)) in
     (rw off, rw off)
-
-lent-shares-requires : tie.Need-lent-shares-requires
-lent-shares-requires c κs = search needs
-
-add-requires : tie.Need-add-requires
-add-requires c κs = search needs
-
-add-requires-2 : tie.Need-add-requires-2
-add-requires-2 c κs = search needs
 
 returns-2 : tie.Need-returns-2
 returns-2 c =
@@ -40,6 +28,4 @@ returns-2 c =
     )
 
 pub with-report-spec : {M : Type 1} → statement M
-with-report-spec =
-    tie.close
-    (tie.spec byte-at-requires returns lent-shares-requires add-requires add-requires-2 returns-2)
+with-report-spec = tie.close (tie.spec (λ c κs. search needs) returns (λ c κs. search needs) (λ c κs. search needs) (λ c κs. search needs) returns-2)

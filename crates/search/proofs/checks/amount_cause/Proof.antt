@@ -4,14 +4,8 @@ use borrow.Author.Needs.{needs}
 use Rattle.search.proofs.checks.amount_cause.Statement.{statement}
 use Rattle.search.proofs.checks.amount_cause.Tie as tie
 
-lengths-wrong-requires : tie.Need-lengths-wrong-requires
-lengths-wrong-requires c κs = search needs
-
 returns : tie.Need-returns
 returns c = let h = sym (c .before .lengths-wrong .ensures) ∙ c .if1 .taken in rw h
-
-too-many-reports-requires : tie.Need-too-many-reports-requires
-too-many-reports-requires c κs = search needs
 
 returns-2 : tie.Need-returns-2
 returns-2 c =
@@ -28,4 +22,4 @@ returns-3 c =
     rw (g, h)
 
 pub amount-cause-spec : {M : Type 1} → statement M
-amount-cause-spec = tie.close (tie.spec lengths-wrong-requires returns too-many-reports-requires returns-2 returns-3)
+amount-cause-spec = tie.close (tie.spec (λ c κs. search needs) returns (λ c κs. search needs) returns-2 returns-3)

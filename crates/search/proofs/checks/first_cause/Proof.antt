@@ -34,9 +34,6 @@ lengths : (c : tie.Else2) → Clear (second (begin (c .before .before)))
 lengths c =
     number-clear (second (begin (c .before .before))) (omega arith, (omega arith, tt)) (sym (c .before .amount-cause .ensures) ∙ c .if2 .left)
 
-settings-cause-requires : tie.Need-settings-cause-requires
-settings-cause-requires c κs = search needs
-
 returns : tie.Need-returns
 returns c =
     let s = c .before .before .before .before .before .before in
@@ -46,18 +43,12 @@ returns c =
 cast-levels : tie.Need-cast-levels
 cast-levels c = omega (arith, bounds mostBits (begin c .args .n) (settings c .0) .1)
 
-amount-cause-requires : tie.Need-amount-cause-requires
-amount-cause-requires c κs = search needs
-
 returns-2 : tie.Need-returns-2
 returns-2 c =
     let e = c .before .before in
     let s = begin e in
     let h = c .before .amount-cause .ensures in
     h ∙ sym (first-due (second s) (third s) (λ z. c .if2 .taken (h ∙ z))) ∙ sym (second-due (first s) (second s ++ third s) (settings e))
-
-public-share-cause-requires : tie.Need-public-share-cause-requires
-public-share-cause-requires c κs = search needs
 
 returns-3 : tie.Need-returns-3
 returns-3 c =
@@ -67,6 +58,4 @@ returns-3 c =
     c .public-share-cause .ensures ∙ sym (second-due (second s) (third s) (lengths d)) ∙ sym (second-due (first s) (second s ++ third s) (settings e))
 
 pub first-cause-spec : {M : Type 1} → statement M
-first-cause-spec =
-    tie.close
-    (tie.spec settings-cause-requires returns cast-levels amount-cause-requires returns-2 public-share-cause-requires returns-3)
+first-cause-spec = tie.close (tie.spec (λ c κs. search needs) returns cast-levels (λ c κs. search needs) returns-2 (λ c κs. search needs) returns-3)

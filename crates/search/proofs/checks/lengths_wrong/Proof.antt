@@ -4,14 +4,8 @@ use borrow.Author.Needs.{needs}
 use Rattle.search.proofs.checks.lengths_wrong.Statement.{statement}
 use Rattle.search.proofs.checks.lengths_wrong.Tie as tie
 
-wrong-lengths-requires : tie.Need-wrong-lengths-requires
-wrong-lengths-requires c κs = search needs
-
 returns : tie.Need-returns
 returns c = rw (sym (c .before .wrong-lengths .ensures) ∙ c .if1 .taken)
-
-wrong-lengths-requires-2 : tie.Need-wrong-lengths-requires-2
-wrong-lengths-requires-2 c κs = search needs
 
 returns-2 : tie.Need-returns-2
 returns-2 c = rw (sym (c .before .before .before .wrong-lengths .ensures) ∙ c .before .before .if1 .left, sym (c .before .wrong-lengths2 .ensures) ∙ c .if2 .taken)
@@ -20,6 +14,4 @@ returns-3 : tie.Need-returns-3
 returns-3 c = rw (sym (c .before .before .before .wrong-lengths .ensures) ∙ c .before .before .if1 .left, sym (c .before .wrong-lengths2 .ensures) ∙ c .if2 .left)
 
 pub lengths-wrong-spec : {M : Type 1} → statement M
-lengths-wrong-spec =
-    tie.close
-    (tie.spec wrong-lengths-requires returns wrong-lengths-requires-2 returns-2 returns-3)
+lengths-wrong-spec = tie.close (tie.spec (λ c κs. search needs) returns (λ c κs. search needs) returns-2 returns-3)

@@ -5,16 +5,10 @@ use Rattle.search.proofs.Judging.{first-applies, second-tells}
 use Rattle.search.proofs.checks.payload_too_large.Statement.{statement}
 use Rattle.search.proofs.checks.payload_too_large.Tie as tie
 
-all-payloads-below-requires : tie.Need-all-payloads-below-requires
-all-payloads-below-requires c κs = search needs
-
 returns : tie.Need-returns
 returns c =
     let a = c .before .before .before .before .before .before .args in
     first-applies (payloadTooLarge (a .n) (a .seeds0 .now) (a .shares0 .now)) (payloadTooLarge (a .n) (a .seeds1 .now) (a .shares1 .now)) _ (c .before .all-payloads-below .ensures) (c .if1 .taken)
-
-all-payloads-below-requires-2 : tie.Need-all-payloads-below-requires-2
-all-payloads-below-requires-2 c κs = search needs
 
 returns-2 : tie.Need-returns-2
 returns-2 c =
@@ -23,6 +17,4 @@ returns-2 c =
     (c .before .if1 .left) (c .all-payloads-below2 .ensures)
 
 pub payload-too-large-spec : {M : Type 1} → statement M
-payload-too-large-spec =
-    tie.close
-    (tie.spec all-payloads-below-requires returns all-payloads-below-requires-2 returns-2)
+payload-too-large-spec = tie.close (tie.spec (λ c κs. search needs) returns (λ c κs. search needs) returns-2)

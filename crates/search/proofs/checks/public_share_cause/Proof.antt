@@ -5,14 +5,8 @@ use borrow.Author.Tests.{not-true, not-false}
 use Rattle.search.proofs.checks.public_share_cause.Statement.{statement}
 use Rattle.search.proofs.checks.public_share_cause.Tie as tie
 
-payload-too-large-requires : tie.Need-payload-too-large-requires
-payload-too-large-requires c κs = search needs
-
 returns : tie.Need-returns
 returns c = let h = sym (c .before .payload-too-large .ensures) ∙ c .if1 .taken in rw h
-
-spare-bits-set-requires : tie.Need-spare-bits-set-requires
-spare-bits-set-requires c κs = search needs
 
 returns-2 : tie.Need-returns-2
 returns-2 c =
@@ -20,9 +14,6 @@ returns-2 c =
     let f = sym (e .before .payload-too-large .ensures) ∙ e .if1 .left in
     let h = sym (c .before .spare-bits-set .ensures) ∙ c .if2 .taken in
     rw (f, h)
-
-same-bytes-requires : tie.Need-same-bytes-requires
-same-bytes-requires c κs = search needs
 
 returns-3 : tie.Need-returns-3
 returns-3 c =
@@ -44,4 +35,5 @@ returns-4 c =
 
 pub public-share-cause-spec : {M : Type 1} → statement M
 public-share-cause-spec =
-    tie.close (tie.spec payload-too-large-requires returns spare-bits-set-requires returns-2 same-bytes-requires returns-3 returns-4)
+    tie.close
+    (tie.spec (λ c κs. search needs) returns (λ c κs. search needs) returns-2 (λ c κs. search needs) returns-3 returns-4)

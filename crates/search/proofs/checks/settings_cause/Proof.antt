@@ -16,20 +16,11 @@ bits c = sym (c .before .length-outside .ensures) ∙ c .if1 .left
 threshold : (c : tie.Else2) → outside mostThreshold (begin (c .before .before) .args .t) ≡ false
 threshold c = sym (c .before .threshold-outside .ensures) ∙ c .if2 .left
 
-length-outside-requires : tie.Need-length-outside-requires
-length-outside-requires c κs = search needs
-
 returns : tie.Need-returns
 returns c = let h = sym (c .before .length-outside .ensures) ∙ c .if1 .taken in rw h
 
-threshold-outside-requires : tie.Need-threshold-outside-requires
-threshold-outside-requires c κs = search needs
-
 returns-2 : tie.Need-returns-2
 returns-2 c = let h = sym (c .before .threshold-outside .ensures) ∙ c .if2 .taken in rw (bits (c .before .before), h)
-
-is-expander-requires : tie.Need-is-expander-requires
-is-expander-requires c κs = search needs
 
 returns-3 : tie.Need-returns-3
 returns-3 c =
@@ -44,5 +35,4 @@ returns-4 c =
     rw (bits (e .before .before), threshold e, h)
 
 pub settings-cause-spec : {M : Type 1} → statement M
-settings-cause-spec =
-    tie.close (tie.spec length-outside-requires returns threshold-outside-requires returns-2 is-expander-requires returns-3 returns-4)
+settings-cause-spec = tie.close (tie.spec (λ c κs. search needs) returns (λ c κs. search needs) returns-2 (λ c κs. search needs) returns-3 returns-4)

@@ -5,16 +5,10 @@ use Rattle.search.proofs.Judging.{first-applies, second-tells}
 use Rattle.search.proofs.checks.spare_bits_set.Statement.{statement}
 use Rattle.search.proofs.checks.spare_bits_set.Tie as tie
 
-all-spare-bits-zero-requires : tie.Need-all-spare-bits-zero-requires
-all-spare-bits-zero-requires c κs = search needs
-
 returns : tie.Need-returns
 returns c =
     let a = c .before .before .before .before .before .before .args in
     first-applies (spareBitsSet (a .n) (a .seeds0 .now) (a .shares0 .now)) (spareBitsSet (a .n) (a .seeds1 .now) (a .shares1 .now)) _ (c .before .all-spare-bits-zero .ensures) (c .if1 .taken)
-
-all-spare-bits-zero-requires-2 : tie.Need-all-spare-bits-zero-requires-2
-all-spare-bits-zero-requires-2 c κs = search needs
 
 returns-2 : tie.Need-returns-2
 returns-2 c =
@@ -23,6 +17,4 @@ returns-2 c =
     (c .before .if1 .left) (c .all-spare-bits-zero2 .ensures)
 
 pub spare-bits-set-spec : {M : Type 1} → statement M
-spare-bits-set-spec =
-    tie.close
-    (tie.spec all-spare-bits-zero-requires returns all-spare-bits-zero-requires-2 returns-2)
+spare-bits-set-spec = tie.close (tie.spec (λ c κs. search needs) returns (λ c κs. search needs) returns-2)

@@ -8,14 +8,5 @@ use Rattle.vectors.proofs.keys.share_whole.Tie as tie
 slice-aggregate-share : tie.Need-slice-aggregate-share
 slice-aggregate-share c = let a = c .before .before .before .before .before .args in sym (length-take-le (a .end) (a .query .now) (search needs))
 
-share-requires : tie.Need-share-requires
-share-requires c κs = search needs
-
-returns : tie.Need-returns
-returns c = search needs
-
-returns-2 : tie.Need-returns-2
-returns-2 c = search needs
-
 pub share-whole-spec : {M : Type 1} → statement M
-share-whole-spec = tie.close (tie.spec slice-aggregate-share share-requires returns returns-2)
+share-whole-spec = tie.close (tie.spec slice-aggregate-share (λ c κs. search needs) (λ c. search needs) (λ c. search needs))

@@ -30,9 +30,6 @@ abbrev μ-loop : tie.MeasureT-loop
 loop-holds : tie.Need-loop-holds Inv-loop μ-loop
 loop-holds c = (omega arith, every-none (below (c .before .args .n) (c .before .args .share .now)))
 
-read-level-requires : tie.Need-read-level-requires Inv-loop μ-loop
-read-level-requires c κs = omega arith
-
 returns : tie.Need-returns Inv-loop μ-loop
 unfolding payloadsBelow
 returns c =
@@ -62,14 +59,4 @@ returns-2 c =
     sym (rw e at (l .inv .1))
 
 pub payloads-below-spec : {M : Type 1} → statement M
-payloads-below-spec =
-    tie.close
-    (tie.spec
-    Inv-loop
-    μ-loop
-    loop-holds
-    read-level-requires
-    returns
-    loop-less
-    loop-again
-    returns-2)
+payloads-below-spec = tie.close (tie.spec Inv-loop μ-loop loop-holds (λ c κs. omega arith) returns loop-less loop-again returns-2)

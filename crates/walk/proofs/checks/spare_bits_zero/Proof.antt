@@ -10,23 +10,10 @@ returns c =
     let a = c .before .before .args in
     sym (spare-full (a .n) (a .share .now) (c .if1 .taken))
 
-byte-at-requires : tie.Need-byte-at-requires
-byte-at-requires c κs = search needs
-
-mul-result : tie.Need-mul-result
-mul-result c = search needs
-
-cast-result : tie.Need-cast-result
-cast-result c = search needs
-
-shr-result : tie.Need-shr-result
-shr-result c = search needs
-
 returns-2 : tie.Need-returns-2
 returns-2 c =
     let a = c .before .before .before .args in
     rw (c .byte-at .ensures) (sym (spare-last (a .n) (a .share .now) (c .before .if1 .left)))
 
 pub spare-bits-zero-spec : {M : Type 1} → statement M
-spare-bits-zero-spec =
-    tie.close (tie.spec returns byte-at-requires mul-result cast-result shr-result returns-2)
+spare-bits-zero-spec = tie.close (tie.spec returns (λ c κs. search needs) (λ c. search needs) (λ c. search needs) (λ c. search needs) returns-2)

@@ -18,15 +18,6 @@ abbrev μ-loop : tie.MeasureT-loop
 loop-holds : tie.Need-loop-holds Inv-loop μ-loop
 loop-holds c = let a = c .before .before .args in (omega arith, same-none (bitOf (bitsOf (a .first .now))) (bitOf (bitsOf (a .second .now))) (a .k))
 
-sub-from : tie.Need-sub-from Inv-loop μ-loop
-sub-from c = omega arith
-
-bit-at-requires : tie.Need-bit-at-requires Inv-loop μ-loop
-bit-at-requires c κs = search needs
-
-bit-at-requires-2 : tie.Need-bit-at-requires-2 Inv-loop μ-loop
-bit-at-requires-2 c κs = search needs
-
 returns : tie.Need-returns Inv-loop μ-loop
 returns c =
     let y = c .before in
@@ -36,9 +27,6 @@ returns c =
       (λ e. let z : _≡_ {A = ℕ} 0 1 = cc in absurd (omega arith)),
       (λ e s. same-not (bitOf (bitsOf (a .first .now))) (bitOf (bitsOf (a .second .now))) (a .k) (l .loop .from) (x .before .loop-test .taken) (x .bit-at .ensures) (y .bit-at2 .ensures) (c .if1 .taken) (l .loop .inv .0) s),
     )
-
-loop-less : tie.Need-loop-less Inv-loop μ-loop
-loop-less c = omega arith
 
 loop-again : tie.Need-loop-again Inv-loop μ-loop
 loop-again c =
@@ -61,14 +49,5 @@ returns-2 c =
 pub same-bits-spec : {M : Type 1} → statement M
 same-bits-spec =
     tie.close
-    (tie.spec
-    Inv-loop
-    μ-loop
-    loop-holds
-    sub-from
-    bit-at-requires
-    bit-at-requires-2
-    returns
-    loop-less
-    loop-again
+    (tie.spec Inv-loop μ-loop loop-holds (λ c. omega arith) (λ c κs. search needs) (λ c κs. search needs) returns (λ c. omega arith) loop-again
     returns-2)

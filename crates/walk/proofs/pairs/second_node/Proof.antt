@@ -6,9 +6,6 @@ use Rattle.point.proofs.Local.{node-local}
 use Rattle.walk.proofs.pairs.second_node.Statement.{statement}
 use Rattle.walk.proofs.pairs.second_node.Tie as tie
 
-same-bits-requires : tie.Need-same-bits-requires
-same-bits-requires c κs = search needs
-
 returns : tie.Need-returns
 returns c =
     let t = c .before in
@@ -16,11 +13,8 @@ returns c =
     let a = s .args in
     s .pre ∙ node-local (scheme (a .e)) (a .seed) (a .b) (a .k) (λ i l. refl) (t .same-bits .ensures .0 (c .if1 .taken))
 
-node-at-requires : tie.Need-node-at-requires
-node-at-requires c κs = search needs
-
 returns-2 : tie.Need-returns-2
 returns-2 c = c .node-at .ensures
 
 pub second-node-spec : {M : Type 1} → statement M
-second-node-spec = tie.close (tie.spec same-bits-requires returns node-at-requires returns-2)
+second-node-spec = tie.close (tie.spec (λ c κs. search needs) returns (λ c κs. search needs) returns-2)

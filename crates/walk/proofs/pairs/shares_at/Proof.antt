@@ -16,35 +16,8 @@ returns c =
       share-root (a .e) words (a .seed) (a .b) (bitOf (bitsOf (a .second .now))) (a .k) (c .if1 .taken),
     )
 
-sub-up : tie.Need-sub-up
-sub-up c = search needs
-
-node-at-requires : tie.Need-node-at-requires
-node-at-requires c κs = search needs
-
 second-node-requires : tie.Need-second-node-requires
 second-node-requires c κs = c .node-at .ensures
-
-read-level-requires : tie.Need-read-level-requires
-read-level-requires c κs = search needs
-
-cast-bit-at : tie.Need-cast-bit-at
-cast-bit-at c = search needs
-
-bit-at-requires : tie.Need-bit-at-requires
-bit-at-requires c κs = search needs
-
-cast-bit-at-2 : tie.Need-cast-bit-at-2
-cast-bit-at-2 c = search needs
-
-bit-at-requires-2 : tie.Need-bit-at-requires-2
-bit-at-requires-2 c κs = search needs
-
-share-below-requires : tie.Need-share-below-requires
-share-below-requires c κs = search needs
-
-share-below-requires-2 : tie.Need-share-below-requires-2
-share-below-requires-2 c κs = search needs
 
 returns-2 : tie.Need-returns-2
 returns-2 c =
@@ -65,16 +38,5 @@ returns-2 c =
 pub shares-at-spec : {M : Type 1} → statement M
 shares-at-spec =
     tie.close
-    (tie.spec
-    returns
-    sub-up
-    node-at-requires
-    second-node-requires
-    read-level-requires
-    cast-bit-at
-    bit-at-requires
-    cast-bit-at-2
-    bit-at-requires-2
-    share-below-requires
-    share-below-requires-2
-    returns-2)
+    (tie.spec returns (λ c. search needs) (λ c κs. search needs) second-node-requires (λ c κs. search needs) (λ c. search needs)
+    (λ c κs. search needs) (λ c. search needs) (λ c κs. search needs) (λ c κs. search needs) (λ c κs. search needs) returns-2)

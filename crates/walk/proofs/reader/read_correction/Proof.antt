@@ -9,39 +9,6 @@ use borrow.Author.Needs.{needs}
 use Rattle.walk.proofs.reader.read_correction.Statement.{statement}
 use Rattle.walk.proofs.reader.read_correction.Tie as tie
 
-level-start-requires : tie.Need-level-start-requires
-level-start-requires c κs = search needs
-
-byte-at-requires : tie.Need-byte-at-requires
-byte-at-requires c κs = search needs
-
-mul-place : tie.Need-mul-place
-mul-place c = search needs
-
-read16-requires : tie.Need-read16-requires
-read16-requires c κs = search needs
-
-cast-t10 : tie.Need-cast-t10
-cast-t10 c = search needs
-
-shr-t11 : tie.Need-shr-t11
-shr-t11 c = search needs
-
-add-t8 : tie.Need-add-t8
-add-t8 c = search needs
-
-cast-t14 : tie.Need-cast-t14
-cast-t14 c = search needs
-
-shr-t15 : tie.Need-shr-t15
-shr-t15 c = search needs
-
-add-read-le8 : tie.Need-add-read-le8
-add-read-le8 c = search needs
-
-read-le8-requires : tie.Need-read-le8-requires
-read-le8-requires c κs = search needs
-
 returns : tie.Need-returns
 unfolding readCorrection binaryDigit
 returns c =
@@ -60,16 +27,5 @@ returns c =
 pub read-correction-spec : {M : Type 1} → statement M
 read-correction-spec =
     tie.close
-    (tie.spec
-    level-start-requires
-    byte-at-requires
-    mul-place
-    read16-requires
-    cast-t10
-    shr-t11
-    add-t8
-    cast-t14
-    shr-t15
-    add-read-le8
-    read-le8-requires
-    returns)
+    (tie.spec (λ c κs. search needs) (λ c κs. search needs) (λ c. search needs) (λ c κs. search needs) (λ c. search needs) (λ c. search needs)
+    (λ c. search needs) (λ c. search needs) (λ c. search needs) (λ c. search needs) (λ c κs. search needs) returns)

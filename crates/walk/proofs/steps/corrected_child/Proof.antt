@@ -5,15 +5,6 @@ use borrow.Author.Needs.{needs}
 use Rattle.walk.proofs.steps.corrected_child.Statement.{statement}
 use Rattle.walk.proofs.steps.corrected_child.Tie as tie
 
-bit-correction-requires : tie.Need-bit-correction-requires
-bit-correction-requires c κs = search needs
-
-child-requires : tie.Need-child-requires
-child-requires c κs = search needs
-
-corrected-requires : tie.Need-corrected-requires
-corrected-requires c κs = search needs
-
 returns : tie.Need-returns
 unfolding correctedChild
 returns c =
@@ -21,5 +12,4 @@ returns c =
     c .corrected .ensures ∙ ap₂ (corrected (a .m .bit) (a .c .seed)) (c .before .before .bit-correction .ensures) (c .before .child .ensures)
 
 pub corrected-child-spec : {M : Type 1} → statement M
-corrected-child-spec =
-    tie.close (tie.spec bit-correction-requires child-requires corrected-requires returns)
+corrected-child-spec = tie.close (tie.spec (λ c κs. search needs) (λ c κs. search needs) (λ c κs. search needs) returns)

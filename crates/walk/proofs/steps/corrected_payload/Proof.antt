@@ -18,15 +18,6 @@ drawn : (c : tie.After-draw) → c .draw .result ≡ payloadOf (scheme (c .befor
 unfolding payloadOf fieldScheme
 drawn c = c .draw .ensures .0 ∙ ap (λ (b : List ℕ). fromLittle (take 8 b) % p) (c .before .block .ensures)
 
-block-requires : tie.Need-block-requires
-block-requires c κs = search needs
-
-draw-requires : tie.Need-draw-requires
-draw-requires c κs = search needs
-
-add-requires : tie.Need-add-requires
-add-requires c κs = search needs
-
 returns : tie.Need-returns
 returns c =
     let d = c .before .before in
@@ -40,5 +31,4 @@ returns-2 c =
     payload-off (a .e) (a .v) (nodeOf (a .m)) (drawn d) (c .if1 .left)
 
 pub corrected-payload-spec : {M : Type 1} → statement M
-corrected-payload-spec =
-    tie.close (tie.spec block-requires draw-requires add-requires returns returns-2)
+corrected-payload-spec = tie.close (tie.spec (λ c κs. search needs) (λ c κs. search needs) (λ c κs. search needs) returns returns-2)

@@ -5,12 +5,6 @@ use borrow.Author.Needs.{needs}
 use Rattle.walk.proofs.steps.descend.Statement.{statement}
 use Rattle.walk.proofs.steps.descend.Tie as tie
 
-corrected-child-requires : tie.Need-corrected-child-requires
-corrected-child-requires c κs = search needs
-
-block-requires : tie.Need-block-requires
-block-requires c κs = search needs
-
 returns : tie.Need-returns
 returns c =
     let h = c .before .before in
@@ -18,4 +12,4 @@ returns c =
     descend-block (a .e) (correctionOf (a .c)) (a .x) (nodeOf (a .m)) (nodeOf (h .corrected-child .result)) (h .corrected-child .ensures) (c .block .ensures)
 
 pub descend-spec : {M : Type 1} → statement M
-descend-spec = tie.close (tie.spec corrected-child-requires block-requires returns)
+descend-spec = tie.close (tie.spec (λ c κs. search needs) (λ c κs. search needs) returns)

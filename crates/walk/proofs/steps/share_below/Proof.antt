@@ -5,15 +5,6 @@ use borrow.Author.Needs.{needs}
 use Rattle.walk.proofs.steps.share_below.Statement.{statement}
 use Rattle.walk.proofs.steps.share_below.Tie as tie
 
-corrected-child-requires : tie.Need-corrected-child-requires
-corrected-child-requires c κs = search needs
-
-corrected-payload-requires : tie.Need-corrected-payload-requires
-corrected-payload-requires c κs = search needs
-
-negate-requires : tie.Need-negate-requires
-negate-requires c κs = search needs
-
 returns : tie.Need-returns
 returns c =
     let g = c .before in
@@ -30,11 +21,4 @@ returns-2 c =
     below-plain (a .e) (correctionOf (a .c)) (a .x) (nodeOf (a .m)) (nodeOf (h .corrected-child .result)) (h .corrected-child .ensures) (d .corrected-payload .ensures) (a .b) (c .if1 .left)
 
 pub share-below-spec : {M : Type 1} → statement M
-share-below-spec =
-    tie.close
-    (tie.spec
-    corrected-child-requires
-    corrected-payload-requires
-    negate-requires
-    returns
-    returns-2)
+share-below-spec = tie.close (tie.spec (λ c κs. search needs) (λ c κs. search needs) (λ c κs. search needs) returns returns-2)

@@ -8,18 +8,6 @@ use borrow.Author.Needs.{needs}
 use Rattle.aes.proofs.state.State.last_round.Statement.{statement}
 use Rattle.aes.proofs.state.State.last_round.Tie as tie
 
-sub-bytes-requires : tie.Need-sub-bytes-requires
-sub-bytes-requires c κs = search needs
-
-shift-rows-requires : tie.Need-shift-rows-requires
-shift-rows-requires c κs = search needs
-
-add-round-key-requires : tie.Need-add-round-key-requires
-add-round-key-requires c κs = search needs
-
-store-requires : tie.Need-store-requires
-store-requires c κs = search needs
-
 returns : tie.Need-returns
 returns c =
     let b = c .before .before in
@@ -28,6 +16,4 @@ returns c =
     ∙ ap (λ (s : List ℕ). addRoundKey s key) (b .shift-rows .ensures ∙ ap shiftRows (b .before .sub-bytes .ensures))
 
 pub last-round-spec : {M : Type 1} → statement M
-last-round-spec =
-    tie.close
-    (tie.spec sub-bytes-requires shift-rows-requires add-round-key-requires store-requires returns)
+last-round-spec = tie.close (tie.spec (λ c κs. search needs) (λ c κs. search needs) (λ c κs. search needs) (λ c κs. search needs) returns)

@@ -4,27 +4,8 @@ use borrow.Author.Needs.{needs}
 use Rattle.aes.proofs.state.State.mix_columns.Statement.{statement}
 use Rattle.aes.proofs.state.State.mix_columns.Tie as tie
 
-mix-column-requires : tie.Need-mix-column-requires
-mix-column-requires c κs = search needs
-
-mix-column-requires-2 : tie.Need-mix-column-requires-2
-mix-column-requires-2 c κs = search needs
-
-mix-column-requires-3 : tie.Need-mix-column-requires-3
-mix-column-requires-3 c κs = search needs
-
-mix-column-requires-4 : tie.Need-mix-column-requires-4
-mix-column-requires-4 c κs = search needs
-
 returns : tie.Need-returns
 returns c = join4 (c .before .before .before .mix-column .ensures) (c .before .before .mix-column2 .ensures) (c .before .mix-column3 .ensures) (c .mix-column4 .ensures)
 
 pub mix-columns-spec : {M : Type 1} → statement M
-mix-columns-spec =
-    tie.close
-    (tie.spec
-    mix-column-requires
-    mix-column-requires-2
-    mix-column-requires-3
-    mix-column-requires-4
-    returns)
+mix-columns-spec = tie.close (tie.spec (λ c κs. search needs) (λ c κs. search needs) (λ c κs. search needs) (λ c κs. search needs) returns)

@@ -7,30 +7,6 @@ use borrow.Author.Needs.{needs}
 use Rattle.aes.proofs.state.State.next_round_key.Statement.{statement}
 use Rattle.aes.proofs.state.State.next_round_key.Tie as tie
 
-rot-word-requires : tie.Need-rot-word-requires
-rot-word-requires c κs = search needs
-
-sub-word-requires : tie.Need-sub-word-requires
-sub-word-requires c κs = search needs
-
-round-constant-requires : tie.Need-round-constant-requires
-round-constant-requires c κs = search needs
-
-plus-requires : tie.Need-plus-requires
-plus-requires c κs = search needs
-
-plus-requires-2 : tie.Need-plus-requires-2
-plus-requires-2 c κs = search needs
-
-plus-requires-3 : tie.Need-plus-requires-3
-plus-requires-3 c κs = search needs
-
-plus-requires-4 : tie.Need-plus-requires-4
-plus-requires-4 c κs = search needs
-
-plus-requires-5 : tie.Need-plus-requires-5
-plus-requires-5 c κs = search needs
-
 returns : tie.Need-returns
 returns c =
     let b = c .before .before .before .before in
@@ -46,13 +22,5 @@ returns c =
 pub next-round-key-spec : {M : Type 1} → statement M
 next-round-key-spec =
     tie.close
-    (tie.spec
-    rot-word-requires
-    sub-word-requires
-    round-constant-requires
-    plus-requires
-    plus-requires-2
-    plus-requires-3
-    plus-requires-4
-    plus-requires-5
-    returns)
+    (tie.spec (λ c κs. search needs) (λ c κs. search needs) (λ c κs. search needs) (λ c κs. search needs) (λ c κs. search needs)
+    (λ c κs. search needs) (λ c κs. search needs) (λ c κs. search needs) returns)

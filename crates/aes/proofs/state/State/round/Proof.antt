@@ -8,18 +8,6 @@ use borrow.Author.Needs.{needs}
 use Rattle.aes.proofs.state.State.round.Statement.{statement}
 use Rattle.aes.proofs.state.State.round.Tie as tie
 
-sub-bytes-requires : tie.Need-sub-bytes-requires
-sub-bytes-requires c κs = search needs
-
-shift-rows-requires : tie.Need-shift-rows-requires
-shift-rows-requires c κs = search needs
-
-mix-columns-requires : tie.Need-mix-columns-requires
-mix-columns-requires c κs = search needs
-
-add-round-key-requires : tie.Need-add-round-key-requires
-add-round-key-requires c κs = search needs
-
 returns : tie.Need-returns
 returns c =
     let b = c .before in
@@ -29,11 +17,4 @@ returns c =
     (b .mix-columns .ensures ∙ ap mixColumns (b .before .shift-rows .ensures ∙ ap shiftRows (b .before .before .sub-bytes .ensures)))
 
 pub round-spec : {M : Type 1} → statement M
-round-spec =
-    tie.close
-    (tie.spec
-    sub-bytes-requires
-    shift-rows-requires
-    mix-columns-requires
-    add-round-key-requires
-    returns)
+round-spec = tie.close (tie.spec (λ c κs. search needs) (λ c κs. search needs) (λ c κs. search needs) (λ c κs. search needs) returns)

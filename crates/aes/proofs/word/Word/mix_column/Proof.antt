@@ -9,33 +9,6 @@ use borrow.Author.Needs.{needs}
 use Rattle.aes.proofs.word.Word.mix_column.Statement.{statement}
 use Rattle.aes.proofs.word.Word.mix_column.Tie as tie
 
-doubled-requires : tie.Need-doubled-requires
-doubled-requires c κs = search needs
-
-rot-word-requires : tie.Need-rot-word-requires
-rot-word-requires c κs = search needs
-
-rot-word-requires-2 : tie.Need-rot-word-requires-2
-rot-word-requires-2 c κs = search needs
-
-rot-word-requires-3 : tie.Need-rot-word-requires-3
-rot-word-requires-3 c κs = search needs
-
-plus-requires : tie.Need-plus-requires
-plus-requires c κs = search needs
-
-rot-word-requires-4 : tie.Need-rot-word-requires-4
-rot-word-requires-4 c κs = search needs
-
-plus-requires-2 : tie.Need-plus-requires-2
-plus-requires-2 c κs = search needs
-
-plus-requires-3 : tie.Need-plus-requires-3
-plus-requires-3 c κs = search needs
-
-plus-requires-4 : tie.Need-plus-requires-4
-plus-requires-4 c κs = search needs
-
 returns : tie.Need-returns
 returns c =
     let sum = c .before .before .before in
@@ -53,14 +26,5 @@ returns c =
 pub mix-column-spec : {M : Type 1} → statement M
 mix-column-spec =
     tie.close
-    (tie.spec
-    doubled-requires
-    rot-word-requires
-    rot-word-requires-2
-    rot-word-requires-3
-    plus-requires
-    rot-word-requires-4
-    plus-requires-2
-    plus-requires-3
-    plus-requires-4
-    returns)
+    (tie.spec (λ c κs. search needs) (λ c κs. search needs) (λ c κs. search needs) (λ c κs. search needs) (λ c κs. search needs)
+    (λ c κs. search needs) (λ c κs. search needs) (λ c κs. search needs) (λ c κs. search needs) returns)

@@ -4,14 +4,8 @@ use borrow.Author.Needs.{needs}
 use Rattle.aes.proofs.word.Word.rot_word.Statement.{statement}
 use Rattle.aes.proofs.word.Word.rot_word.Tie as tie
 
-mul-t5 : tie.Need-mul-t5
-mul-t5 c = search needs
-
-add-t6 : tie.Need-add-t6
-add-t6 c = search needs
-
 returns : tie.Need-returns
 returns c = rotated _ (search needs)
 
 pub rot-word-spec : {M : Type 1} → statement M
-rot-word-spec = tie.close (tie.spec mul-t5 add-t6 returns)
+rot-word-spec = tie.close (tie.spec (λ c. search needs) (λ c. search needs) returns)

@@ -18,12 +18,6 @@ constants = 1 ∷ 2 ∷ 4 ∷ 8 ∷ 16 ∷ 32 ∷ 64 ∷ 128 ∷ 27 ∷ 54 ∷ [
 right : ℕ → Bool
 right i = eqb (getD constants i 0) (powerOfX (i + 1 - 1))
 
-array-read-t5 : tie.Need-array-read-t5
-array-read-t5 c = search needs
-
-load-requires : tie.Need-load-requires
-load-requires c κs = search needs
-
 returns : tie.Need-returns
 unfolding constants right computes
 returns c =
@@ -32,4 +26,4 @@ returns c =
     ∙ ap (λ (x : ℕ). x ∷ 0 ∷ 0 ∷ 0 ∷ []) (eqb→eq (getD constants i 0) (powerOfX (i + 1 - 1)) (below right 10 tt i (search needs)))
 
 pub round-constant-spec : {M : Type 1} → statement M
-round-constant-spec = tie.close (tie.spec array-read-t5 load-requires returns)
+round-constant-spec = tie.close (tie.spec (λ c. search needs) (λ c κs. search needs) returns)

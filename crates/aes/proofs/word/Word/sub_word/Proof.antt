@@ -9,36 +9,6 @@ use borrow.Author.Needs.{needs}
 use Rattle.aes.proofs.word.Word.sub_word.Statement.{statement}
 use Rattle.aes.proofs.word.Word.sub_word.Tie as tie
 
-store-requires : tie.Need-store-requires
-store-requires c κs = search needs
-
-array-read-sub : tie.Need-array-read-sub
-array-read-sub c = search needs
-
-sub-requires : tie.Need-sub-requires
-sub-requires c κs = search needs
-
-array-read-sub-2 : tie.Need-array-read-sub-2
-array-read-sub-2 c = search needs
-
-sub-requires-2 : tie.Need-sub-requires-2
-sub-requires-2 c κs = search needs
-
-array-read-sub-3 : tie.Need-array-read-sub-3
-array-read-sub-3 c = search needs
-
-sub-requires-3 : tie.Need-sub-requires-3
-sub-requires-3 c κs = search needs
-
-array-read-sub-4 : tie.Need-array-read-sub-4
-array-read-sub-4 c = search needs
-
-sub-requires-4 : tie.Need-sub-requires-4
-sub-requires-4 c κs = search needs
-
-load-requires : tie.Need-load-requires
-load-requires c κs = search needs
-
 returns : tie.Need-returns
 returns c =
     let e = c .before .before .before .before .before .store .ensures in
@@ -52,15 +22,5 @@ returns c =
 pub sub-word-spec : {M : Type 1} → statement M
 sub-word-spec =
     tie.close
-    (tie.spec
-    store-requires
-    array-read-sub
-    sub-requires
-    array-read-sub-2
-    sub-requires-2
-    array-read-sub-3
-    sub-requires-3
-    array-read-sub-4
-    sub-requires-4
-    load-requires
-    returns)
+    (tie.spec (λ c κs. search needs) (λ c. search needs) (λ c κs. search needs) (λ c. search needs) (λ c κs. search needs) (λ c. search needs)
+    (λ c κs. search needs) (λ c. search needs) (λ c κs. search needs) (λ c κs. search needs) returns)
