@@ -12,8 +12,8 @@ use Rattle.calls.specs.declared.Reply.{Reply}
 use Rattle.calls.proofs.Decisions.{below-bounds, in-bounds}
 use Rattle.calls.proofs.Judged.{exit-equal}
 use Rattle.expander.specs.Expander.{isExpander}
-use Rattle.exam_reading.specs.Sheet.{expanderNumber}
-use Rattle.exam_reading.specs.Reader.{isSheet, sheetOf, readSheet}
+use Rattle.exam_text.specs.Sheet.{expanderNumber}
+use Rattle.exam_text.specs.Reader.{isSheet, sheetOf, readSheet}
 use Rattle.exam_answering.specs.Answer.{answerText}
 use Rattle.exam_lines.specs.Lines.{writtenIn}
 use Rattle.exam_answering.specs.Exam.{examOutcome, examExit}

@@ -16,9 +16,9 @@ use Rattle.search.proofs.Outcome.{Sound, accepted-clear}
 use Rattle.honest.specs.Honest.{Accepted, recordRead, listRead, Honest, countedStrings}
 use Rattle.honest.proofs.Counted.{few-strings, accepted-record, accepted-list}
 use Rattle.honest.proofs.Demand2.{honest-accepted}
-use Rattle.exam_reading.specs.Sheet.{Sheet, strings}
+use Rattle.exam_text.specs.Sheet.{Sheet, strings}
 use Rattle.exam_answering.specs.Answer.{answerText}
-use Rattle.exam_reading.proofs.Records.{Rounds}
+use Rattle.exam_text.proofs.Records.{Rounds}
 use Rattle.exam_answering.specs.Printing.{printed, roundLength}
 use Rattle.exam_answering.proofs.Space.{exam-record, exam-list}
 use Rattle.exam_answering.proofs.Printed.{printed-answer, answer-rounds}

@@ -13,11 +13,11 @@ use Rattle.point.specs.PublicShare.{publicShareLength}
 use Rattle.keymaker.specs.Key.{keyOutcome}
 use Rattle.search.proofs.Outcome.{named-expander}
 use Rattle.honest.proofs.Keys.{honest-report, key-accepted, key-passes}
-use Rattle.exam_reading.specs.Sheet.{Line}
-use Rattle.exam_reading.specs.Reader.{areLines, linesOf, noLine, lineAt}
-use Rattle.exam_reading.proofs.SheetTests.{lines-count}
-use Rattle.exam_reading.proofs.Values.{packed-four}
-use Rattle.exam_reading.proofs.Placed.{Sound, stands-sound, linePlace, line-stands, line-placed}
+use Rattle.exam_text.specs.Sheet.{Line}
+use Rattle.exam_text.specs.Reader.{areLines, linesOf, noLine, lineAt}
+use Rattle.exam_text.proofs.SheetTests.{lines-count}
+use Rattle.exam_text.proofs.Values.{packed-four}
+use Rattle.exam_text.proofs.Placed.{Sound, stands-sound, linePlace, line-stands, line-placed}
 
 -- ---- a line
 

@@ -19,8 +19,8 @@ use Rattle.search.specs.Search.{Lent, lent}
 use Rattle.search.proofs.Outcome.{named-expander}
 use Rattle.honest.specs.Honest.{keyAt, Honest}
 use Rattle.honest.proofs.Making.{made-honest}
-use Rattle.exam_reading.specs.Reader.{areLines}
-use Rattle.exam_reading.proofs.LinesText.{lines-read}
+use Rattle.exam_text.specs.Reader.{areLines}
+use Rattle.exam_text.proofs.LinesText.{lines-read}
 use Rattle.exam_answering.proofs.LineKeys.{keyOf, key-size, nthLine, stringsOf, strings-length, string-at, sound-at}
 use Rattle.exam_answering.proofs.PiecesPut.{joined-same, put-next, put-read}
 

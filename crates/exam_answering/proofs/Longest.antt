@@ -14,14 +14,14 @@ use Rattle.places.proofs.Lists.{all-map}
 use Rattle.query.proofs.Children.{children-length, children-longer}
 use Rattle.tree.proofs.Kept.{Survives, list-length}
 use Rattle.tree.proofs.Totals.{count-le, heavy, Stands, stands-start, stands-kept, stands-few, kept-length}
-use Rattle.exam_reading.specs.Characters.{space, newline, binary, decimal}
-use Rattle.exam_reading.specs.Sheet.{Sheet, strings, Within}
+use Rattle.exam_text.specs.Characters.{space, newline, binary, decimal}
+use Rattle.exam_text.specs.Sheet.{Sheet, strings, Within}
 use Rattle.exam_lines.specs.Lines.{prefixLine, heavyLine}
 use Rattle.exam_answering.specs.Answer.{heavyLines, prefixLines, queriedFrom, queried, answerText}
 use Rattle.exam_answering.specs.Exam.{answerSpace}
-use Rattle.exam_reading.proofs.LineFields.{binary-length}
+use Rattle.exam_text.proofs.LineFields.{binary-length}
 use Rattle.exam_answering.proofs.Printed.{lines-append}
-use Rattle.exam_reading.proofs.TextLengths.{decimal-length}
+use Rattle.exam_text.proofs.TextLengths.{decimal-length}
 
 -- ---- one line
 

@@ -13,12 +13,12 @@ use Rattle.calls.specs.Causes.{Cause, Due}
 use Rattle.calls.specs.Outcome.{Outcome, accepted}
 use Rattle.calls.proofs.Judged.{space-decided, due, due-unique, judged-refused, judged-accepted, judged-clear, _&_}
 use Rattle.calls.proofs.Judged as judging
-use Rattle.exam_reading.specs.Characters.{newline, decimal}
-use Rattle.exam_reading.specs.Sheet.{Sheet, text, Within}
+use Rattle.exam_text.specs.Characters.{newline, decimal}
+use Rattle.exam_text.specs.Sheet.{Sheet, text, Within}
 use Rattle.exam_answering.specs.Answer.{answerText}
 use Rattle.exam_lines.specs.Lines.{writtenIn, refusedText, refusedOutcome}
 use Rattle.exam_answering.specs.Exam.{examCauses, examOutcome, answerSpace, outputFor, output, respondOutcome}
-use Rattle.exam_reading.proofs.TextLengths.{decimal-length}
+use Rattle.exam_text.proofs.TextLengths.{decimal-length}
 use Rattle.exam_answering.proofs.Exam.{exam-due, exam-answered}
 use Rattle.exam_answering.proofs.ExamTheorems.{exam-numbers}
 

@@ -25,10 +25,10 @@ use Rattle.tree.proofs.Steps.{record-nothing}
 use Rattle.query.proofs.Queries.{packs-length}
 use Rattle.tree.proofs.Kept.{list-length}
 use Rattle.tree.proofs.Totals.{count-le, honest-fits}
-use Rattle.exam_reading.specs.Sheet.{Sheet, strings}
+use Rattle.exam_text.specs.Sheet.{Sheet, strings}
 use Rattle.exam_lines.specs.Lines.{prefixLine, heavyLine}
 use Rattle.exam_answering.specs.Answer.{heavyLines, prefixLines, queriedFrom, answerText}
-use Rattle.exam_reading.proofs.Records.{Rounds}
+use Rattle.exam_text.proofs.Records.{Rounds}
 use Rattle.exam_answering.specs.Printing.{entryLines, recordLines, listLines, printed, roundLength}
 use Rattle.exam_answering.proofs.Rounds.{round-prefix-length, round-count, round-prefixes, round-totals, round-rest, round-inside, round-long}
 

@@ -11,7 +11,7 @@ use Rattle.numbers.specs.Numbers.{fromLittle}
 use Rattle.bits.specs.Packing.{packedLength, unpack}
 use Rattle.query.specs.Query.{prefixLength, prefixCount}
 use Rattle.exam_lines.specs.Lines.{prefixLine, heavyLine}
-use Rattle.exam_reading.proofs.Records.{Rounds}
+use Rattle.exam_text.proofs.Records.{Rounds}
 use Rattle.exam_answering.specs.Printing.{entryLines, queryLength, roundLength, recordLines, listLines}
 
 -- ---- the prefixes of a round

@@ -14,10 +14,10 @@ use Rattle.tree.specs.Search.{start, isKept, searchList}
 use Rattle.tree.specs.Cut.{Heavy, honestList, times, Rearranged}
 use Rattle.tree.proofs.Demands.{honest-exact, honest-ascending, honest-once}
 use Rattle.tree.proofs.Rearranging.{rearranged-number}
-use Rattle.exam_reading.specs.Sheet.{Line, Sheet, strings, expanderNumber, text, Within}
+use Rattle.exam_text.specs.Sheet.{Line, Sheet, strings, expanderNumber, text, Within}
 use Rattle.exam_answering.specs.Answer.{prefixLines, heavyLines, queriedFrom, queried, answerText}
 use Rattle.exam_answering.specs.Exam.{examOutcome}
-use Rattle.exam_reading.proofs.TextLengths.{text-most}
+use Rattle.exam_text.proofs.TextLengths.{text-most}
 use Rattle.exam_answering.proofs.Exam.{sheetCauses, sheet-outcome}
 
 -- ---- on what the answer depends

@@ -19,8 +19,8 @@ use Rattle.search.specs.Search.{Lent, lent, thresholdOf}
 use Rattle.honest.specs.Honest.{Accepted, recordRead, listRead, Honest}
 use Rattle.honest.proofs.Pieces.{all-at}
 use Rattle.honest.proofs.Demand2.{honest-made}
-use Rattle.exam_reading.specs.Sheet.{Line, Sheet, strings, expanderNumber, text, Within}
-use Rattle.exam_reading.specs.Reader.{noLine}
+use Rattle.exam_text.specs.Sheet.{Line, Sheet, strings, expanderNumber, text, Within}
+use Rattle.exam_text.specs.Reader.{noLine}
 use Rattle.exam_answering.specs.Answer.{answerText}
 use Rattle.exam_answering.specs.Printing.{printed}
 use Rattle.exam_answering.specs.Exam.{examOutcome}

@@ -10,13 +10,13 @@ use Rattle.expander.specs.Expander.{isExpander}
 use Rattle.point.specs.PublicShare.{publicShareLength}
 use Rattle.search.specs.Search.{Lent}
 use Rattle.honest.specs.Honest.{Accepted, recordRead, listRead, Honest}
-use Rattle.exam_reading.specs.Sheet.{Line, strings}
-use Rattle.exam_reading.specs.Reader.{areLines, afterFirstLine, isSheet, sheetOf}
+use Rattle.exam_text.specs.Sheet.{Line, strings}
+use Rattle.exam_text.specs.Reader.{areLines, afterFirstLine, isSheet, sheetOf}
 use Rattle.exam_answering.specs.Answer.{answerText}
-use Rattle.exam_reading.proofs.Records.{Rounds}
+use Rattle.exam_text.proofs.Records.{Rounds}
 use Rattle.exam_answering.specs.Printing.{printed, roundLength}
-use Rattle.exam_reading.proofs.ReaderExact.{sheet-within}
-use Rattle.exam_reading.proofs.Placed as placed
+use Rattle.exam_text.proofs.ReaderExact.{sheet-within}
+use Rattle.exam_text.proofs.Placed as placed
 use Rattle.exam_answering.proofs.HonestAnswer.{exam-accepted, answer-printed, answer-read}
 use Rattle.exam_answering.proofs.Longest.{answer-most}
 use Rattle.exam_answering.proofs.LineKeys.{stringsOf, strings-length}

@@ -8,7 +8,7 @@ use Rattle.kept.specs.Kept.{reaches}
 use Rattle.tree.specs.Search.{start, isKept}
 use Rattle.query.specs.Query.{children}
 use Rattle.tree.specs.Cut.{honestList}
-use Rattle.exam_reading.specs.Sheet.{Sheet, strings}
+use Rattle.exam_text.specs.Sheet.{Sheet, strings}
 use Rattle.exam_lines.specs.Lines.{prefixLine, heavyLine}
 
 -- ---- lines

@@ -11,8 +11,8 @@ use Rattle.calls.specs.Bounds.{mostBits, mostThreshold, Outside, outside}
 use Rattle.calls.specs.Causes.{Cause, cause}
 use Rattle.calls.specs.Outcome.{Outcome, judged, Exit, exit}
 use Rattle.expander.specs.Expander.{isExpander}
-use Rattle.exam_reading.specs.Sheet.{Sheet, expanderNumber, text, Within}
-use Rattle.exam_reading.specs.Reader.{readSheet}
+use Rattle.exam_text.specs.Sheet.{Sheet, expanderNumber, text, Within}
+use Rattle.exam_text.specs.Reader.{readSheet}
 use Rattle.exam_lines.specs.Lines.{refusedText, writtenIn}
 use Rattle.exam_answering.specs.Answer.{answerText}
 

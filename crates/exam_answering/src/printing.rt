@@ -13,7 +13,7 @@ ghost use Rattle.bits.specs.Packing.{packedLength, unpack};
 ghost use Rattle.places.specs.Places.{putAt, overlay};
 ghost use Rattle.query.specs.Query.{prefixLength, prefixCount};
 ghost use Rattle.exam_lines.specs.Lines.{prefixLine, heavyLine};
-ghost use Rattle.exam_reading.proofs.Records.{Rounds};
+ghost use Rattle.exam_text.proofs.Records.{Rounds};
 ghost use Rattle.exam_answering.specs.Printing.{entryLines, queryLength, roundLength, recordLines, listLines, printed};
 
 // ---- a round of a record

@@ -15,7 +15,7 @@ ghost use Rattle.point.specs.PublicShare.{publicShareLength};
 ghost use Rattle.keymaker.specs.Key.{keyOutcome};
 ghost use Rattle.search.specs.Search.{lent};
 ghost use Rattle.honest.specs.Honest.{Honest};
-ghost use Rattle.exam_reading.specs.Reader.{areLines, linesOf, hasLine, lineAt};
+ghost use Rattle.exam_text.specs.Reader.{areLines, linesOf, hasLine, lineAt};
 
 // The public share of a packed string of n bits into the places from `at` on.
 fn write_key(

@@ -13,9 +13,9 @@ ghost use Rattle.exam_lines.specs.Lines.{writtenIn};
 ghost use Rattle.expander.specs.Expander.{isExpander};
 ghost use Rattle.search.specs.Search.{lent};
 ghost use Rattle.honest.specs.Honest.{Accepted, recordRead, listRead};
-ghost use Rattle.exam_reading.specs.Reader.{isSheet, sheetOf, afterFirstLine};
+ghost use Rattle.exam_text.specs.Reader.{isSheet, sheetOf, afterFirstLine};
 ghost use Rattle.exam_answering.specs.Answer.{answerText};
-ghost use Rattle.exam_reading.proofs.Records.{Rounds};
+ghost use Rattle.exam_text.proofs.Records.{Rounds};
 ghost use Rattle.exam_answering.specs.Printing.{printed, roundLength};
 
 // Prints the record and the list of a search that is accepted; both servers are lent the same public shares.

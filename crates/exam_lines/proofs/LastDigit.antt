@@ -4,8 +4,8 @@ use native.Mathlib.Omega.{arith}
 use mathlib.Core.Path.{_≡_, ap, _∙_}
 use mathlib.Core.List.{List, [], _∷_, _++_}
 use lib.ListN.{length, length-append}
-use Rattle.exam_reading.specs.Characters.{decimal}
-use Rattle.exam_reading.proofs.Decimals.{decimal-more, decimal-enough}
+use Rattle.exam_text.specs.Characters.{decimal}
+use Rattle.exam_text.proofs.Decimals.{decimal-more, decimal-enough}
 
 module _ (x : ℕ) (b : x < 2 ^ 64) (h : 10 ≤ x) where
   pub decimal-long : decimal x ≡ decimal (x / 10) ++ ((48 + x % 10) ∷ [])

@@ -13,8 +13,8 @@ use Rattle.places.proofs.Places.{putAt-nil}
 use Rattle.bits.specs.Strings.{Bits}
 use Rattle.bits.specs.Packing.{packedLength, unpack}
 use Rattle.bits.proofs.Packed.{unpack-length}
-use Rattle.exam_reading.specs.Characters.{space, newline, binary, decimal}
-use Rattle.exam_reading.proofs.LineFields.{binary-length}
+use Rattle.exam_text.specs.Characters.{space, newline, binary, decimal}
+use Rattle.exam_text.proofs.LineFields.{binary-length}
 use Rattle.exam_lines.specs.Lines.{prefixLine, heavyLine, packedLine, placeBehind}
 use Rattle.exam_lines.proofs.PrintedParts.{Wrote}
 

@@ -10,7 +10,7 @@ use lib.Seq.{drop-cons, getD-take}
 use Rattle.places.specs.Lists.{digit}
 use Rattle.bits.specs.Packing.{packedLength, bitsOf, unpack}
 use Rattle.bits.proofs.Packed.{unpack-length}
-use Rattle.exam_reading.specs.Characters.{glyph, binary}
+use Rattle.exam_text.specs.Characters.{glyph, binary}
 
 module _ (k i : ℕ) (packed : List ℕ) where
   pub binary-none : k ≤ i → binary (drop i (unpack k packed)) ≡ []

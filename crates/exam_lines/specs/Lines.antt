@@ -8,7 +8,7 @@ use Rattle.bits.specs.Strings.{Bits}
 use Rattle.bits.specs.Packing.{packedLength, unpack}
 use Rattle.calls.specs.Bounds.{spaceCause}
 use Rattle.calls.specs.Outcome.{Outcome, judged}
-use Rattle.exam_reading.specs.Characters.{space, newline, binary, decimal}
+use Rattle.exam_text.specs.Characters.{space, newline, binary, decimal}
 
 -- ---- the lines
 

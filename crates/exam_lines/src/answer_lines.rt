@@ -9,7 +9,7 @@ ghost use lib.ListN.{length};
 ghost use Rattle.places.specs.Lists.{digit};
 ghost use Rattle.bits.specs.Packing.{packedLength, unpack};
 ghost use Rattle.places.specs.Places.{putAt, overlay};
-ghost use Rattle.exam_reading.specs.Characters.{glyph, binary};
+ghost use Rattle.exam_text.specs.Characters.{glyph, binary};
 ghost use Rattle.exam_lines.specs.Lines.{prefixLine, heavyLine, refusedText};
 
 // What stands between two fields of a line.

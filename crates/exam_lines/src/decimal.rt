@@ -4,7 +4,7 @@ ghost use mathlib.Core.List.{[], _∷_};
 ghost use Prim.Native.Nat.{_+_, _≤_, _<_};
 ghost use lib.ListN.{length};
 ghost use Rattle.places.specs.Places.{putAt};
-ghost use Rattle.exam_reading.specs.Characters.{decimal};
+ghost use Rattle.exam_text.specs.Characters.{decimal};
 
 // The base in which numbers are printed.
 const BASE: u64 = 10;

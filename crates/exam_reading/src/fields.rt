@@ -4,8 +4,8 @@ ghost use mathlib.Core.Path.{_≡_};
 ghost use mathlib.Core.Bool.{true};
 ghost use Prim.Native.Nat.{_+_, _-_, _≤_, _<_};
 ghost use lib.ListN.{length, drop};
-ghost use Rattle.exam_reading.specs.Reader.{isDecimal, leading, isNumber, firstNumber};
-ghost use Rattle.exam_reading.specs.Reading.{FieldRead};
+ghost use Rattle.exam_text.specs.Reader.{isDecimal, leading, isNumber, firstNumber};
+ghost use Rattle.exam_text.proofs.Reading.{FieldRead};
 
 // Whether a field is laid out so, its number, and the place behind it; all 0 where it is not.
 pub(crate) struct Field {

@@ -4,7 +4,7 @@ ghost use mathlib.Core.Path.{_≡_};
 ghost use mathlib.Core.Bool.{false};
 ghost use Prim.Native.Nat.{_≤_};
 ghost use lib.ListN.{length};
-ghost use Rattle.exam_reading.specs.Reading.{EndRead, FirstLineRead};
+ghost use Rattle.exam_text.proofs.Reading.{EndRead, FirstLineRead};
 
 // The end of a first line: the count, the expander, and where the next line begins.
 struct End {

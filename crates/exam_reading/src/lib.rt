@@ -7,7 +7,7 @@ use crate::parts::read_string;
 ghost use mathlib.Core.Path.{_≡_};
 ghost use mathlib.Core.Bool.{true, false};
 ghost use Rattle.bits.specs.Packing.{packIn};
-ghost use Rattle.exam_reading.specs.Reader.{isSheet, SheetSays, lineAt};
+ghost use Rattle.exam_text.specs.Reader.{isSheet, SheetSays, lineAt};
 
 mod fields;
 mod first_line;

@@ -5,7 +5,7 @@ ghost use mathlib.Core.Bool.{_&&_};
 ghost use Prim.Native.Nat.{_+_, _*_, _≤_, _<_};
 ghost use lib.ListN.{length, getD, take, drop};
 ghost use lib.Dec.{eqb};
-ghost use Rattle.exam_reading.specs.Reader.{isHex, areBits, areHex, lineLength, isLine, areLines, hasLine};
+ghost use Rattle.exam_text.specs.Reader.{isHex, areBits, areHex, lineLength, isLine, areLines, hasLine};
 
 // Whether each of n characters from a place on is `0` or `1`.
 fn are_bits(text: &[u8], at: usize, n: usize) -> bool

@@ -5,7 +5,7 @@ ghost use Prim.Native.Nat.{_+_, _*_, _≤_};
 ghost use lib.ListN.{length, getD, take, drop};
 ghost use Rattle.places.specs.Lists.{digit};
 ghost use Rattle.bits.specs.Packing.{packIn, value};
-ghost use Rattle.exam_reading.specs.Reader.{isHex, hexValue, areHex, bytesRead, bitsRead};
+ghost use Rattle.exam_text.specs.Reader.{isHex, hexValue, areHex, bytesRead, bitsRead};
 
 // The value of a hexadecimal digit.
 fn hex_value(c: u8) -> u8

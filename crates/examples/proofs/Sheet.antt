@@ -29,8 +29,8 @@ use Rattle.tree.specs.Cut.{honestRecord, honestList, cut}
 use Rattle.keymaker.specs.Key.{keyBytes, keyOutcome}
 use Rattle.report_sums.specs.Reports.{sumWhere, lentShare, serverSum}
 use Rattle.idpf.specs.Share.{shareBytes, shareOutcome}
-use Rattle.exam_reading.specs.Characters.{binary, decimalIn}
-use Rattle.exam_reading.specs.Sheet.{Line, Sheet, strings, expanderNumber, text}
+use Rattle.exam_text.specs.Characters.{binary, decimalIn}
+use Rattle.exam_text.specs.Sheet.{Line, Sheet, strings, expanderNumber, text}
 use Rattle.exam_answering.specs.Exam.{examOutcome, answerSpace, outputFor, output}
 use Rattle.exam_answering.specs.Answer.{heavyLines, prefixLines, queriedFrom, answerText}
 use Rattle.exam_answering.proofs.Exam.{sheet-outcome}

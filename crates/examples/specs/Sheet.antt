@@ -20,7 +20,7 @@ use Rattle.keymaker.specs.Key.{keyOutcome}
 use Rattle.idpf.specs.Share.{shareOutcome}
 use Rattle.search.specs.Search.{Lent, thresholdOf, searchNumber}
 use Rattle.honest.specs.Honest.{Accepted, recordRead, listRead, Honest}
-use Rattle.exam_reading.specs.Sheet.{Sheet, strings, text, Within}
+use Rattle.exam_text.specs.Sheet.{Sheet, strings, text, Within}
 use Rattle.exam_answering.specs.Exam.{output}
 
 -- A key of the sheet: the number of its expander, its string and its root seeds.

@@ -10,10 +10,10 @@ use Rattle.calls.specs.Bounds.{mostThreshold, outside}
 use Rattle.calls.proofs.Decisions.{bounds}
 use Rattle.calls.proofs.Judged.{replied}
 use Rattle.expander.specs.Expander.{isExpander}
-use Rattle.exam_reading.specs.Sheet.{expanderNumber, Within}
+use Rattle.exam_text.specs.Sheet.{expanderNumber, Within}
 use Rattle.exam_answering.specs.Exam.{examOutcome}
-use Rattle.exam_reading.specs.Reader.{isSheet, sheetOf, SheetSays}
-use Rattle.exam_reading.proofs.ReaderExact.{sheet-within}
+use Rattle.exam_text.specs.Reader.{isSheet, sheetOf, SheetSays}
+use Rattle.exam_text.proofs.ReaderExact.{sheet-within}
 use Rattle.exam_answering.proofs.ExamCauses.{no-sheet, no-bits, bad-threshold, no-expander, last-cause, refused-reply}
 use borrow.Author.Needs.{needs}
 use Rattle.exam_answering.proofs.answer.Statement.{statement}

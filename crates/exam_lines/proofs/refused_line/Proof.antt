@@ -8,7 +8,7 @@ use borrow.Author.Tests.{lt-ltb, le-ltb}
 use lib.ListN.{length, length-append}
 use Rattle.places.proofs.Places.{overlay-nil}
 use Rattle.calls.proofs.Judged.{exit-equal}
-use Rattle.exam_reading.specs.Characters.{newline, decimal}
+use Rattle.exam_text.specs.Characters.{newline, decimal}
 use Rattle.exam_lines.specs.Lines.{refusedText, refusedOutcome}
 use Rattle.exam_lines.proofs.refused_line.Statement.{statement}
 use Rattle.exam_lines.proofs.refused_line.Tie as tie

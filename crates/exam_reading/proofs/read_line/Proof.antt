@@ -5,8 +5,8 @@ use mathlib.Core.Bool.{true}
 use borrow.Author.Needs.{needs}
 use borrow.Author.Tests.{not-true, not-false}
 use Rattle.bits.specs.Packing.{value, packIn}
-use Rattle.exam_reading.specs.Reader.{hasLine}
-use Rattle.exam_reading.proofs.Placed.{none-stands, stands-within, string-stands, seed0-stands, seed1-stands, seeds-hex}
+use Rattle.exam_text.specs.Reader.{hasLine}
+use Rattle.exam_text.proofs.Placed.{none-stands, stands-within, string-stands, seed0-stands, seed1-stands, seeds-hex}
 use Rattle.exam_reading.proofs.read_line.Statement.{statement}
 use Rattle.exam_reading.proofs.read_line.Tie as tie
 

@@ -4,8 +4,8 @@ use native.Mathlib.Omega.{arith}
 use mathlib.Core.Path.{_≡_, sym, _∙_}
 use mathlib.Core.Bool.{Bool, true, false, false≢true}
 use borrow.Author.Tests.{not-true, not-false}
-use Rattle.exam_reading.specs.Reader.{isFirstLine}
-use Rattle.exam_reading.proofs.SheetTests.{too-long, no-first-line, too-wide, too-many, lines-decide, sheet-says}
+use Rattle.exam_text.specs.Reader.{isFirstLine}
+use Rattle.exam_text.proofs.SheetTests.{too-long, no-first-line, too-wide, too-many, lines-decide, sheet-says}
 use Rattle.exam_reading.proofs.read_sheet.Statement.{statement}
 use Rattle.exam_reading.proofs.read_sheet.Tie as tie
 

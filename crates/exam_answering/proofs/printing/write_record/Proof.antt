@@ -8,7 +8,7 @@ use borrow.Author.Needs.{needs}
 use lib.ListN.{length, drop, length-drop}
 use Rattle.places.proofs.Places.{Grown, grown-start, grown-room, grown-more}
 use Rattle.query.proofs.Pieces.{grown-length}
-use Rattle.exam_reading.proofs.Records.{Rounds}
+use Rattle.exam_text.proofs.Records.{Rounds}
 use Rattle.exam_answering.specs.Printing.{roundLength, recordLines}
 use Rattle.exam_lines.proofs.PrintedParts.{all-written}
 use Rattle.exam_answering.proofs.PrintedLines.{roundLines, rest-of, record-none, record-end, record-step, rounds-step}

@@ -7,10 +7,10 @@ use lib.Seq.{length-take-le}
 use Rattle.places.specs.Places.{putAt}
 use Rattle.point.specs.PublicShare.{publicShareLength}
 use Rattle.keymaker.specs.Key.{keyOutcome}
-use Rattle.exam_reading.specs.Sheet.{Line}
-use Rattle.exam_reading.specs.Reader.{lineAt}
-use Rattle.exam_reading.proofs.Values.{four-length}
-use Rattle.exam_reading.proofs.Placed.{Sound, stands-sound}
+use Rattle.exam_text.specs.Sheet.{Line}
+use Rattle.exam_text.specs.Reader.{lineAt}
+use Rattle.exam_text.proofs.Values.{four-length}
+use Rattle.exam_text.proofs.Placed.{Sound, stands-sound}
 use Rattle.exam_answering.proofs.LineKeys.{keyOf, key-size, key-read}
 use borrow.Author.Needs.{needs}
 use Rattle.exam_answering.proofs.reports.write_report.Statement.{statement}

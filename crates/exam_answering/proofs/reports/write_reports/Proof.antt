@@ -9,9 +9,9 @@ use native.Mathlib.Omega.{arith}
 use lib.ListN.{length}
 use Rattle.places.specs.Places.{putAt}
 use Rattle.point.specs.PublicShare.{publicShareLength}
-use Rattle.exam_reading.specs.Sheet.{Line}
-use Rattle.exam_reading.specs.Reader.{lineLength, hasLine, lineAt}
-use Rattle.exam_reading.proofs.Placed.{stands-within, linePlace, line-stands}
+use Rattle.exam_text.specs.Sheet.{Line}
+use Rattle.exam_text.specs.Reader.{lineLength, hasLine, lineAt}
+use Rattle.exam_text.proofs.Placed.{stands-within, linePlace, line-stands}
 use Rattle.exam_answering.proofs.LineKeys.{keyOf, nthLine}
 use Rattle.exam_answering.proofs.LineReports.{Areas, areas, Room, room-less, Written, written-none, written-lengths, written-more, written-honest}
 use Rattle.exam_answering.proofs.reports.write_reports.Statement.{statement}

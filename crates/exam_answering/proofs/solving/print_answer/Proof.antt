@@ -9,9 +9,9 @@ use lib.Seq.{length-take-le}
 use Rattle.places.specs.Places.{overlay}
 use Rattle.search.specs.Search.{Lent, lent}
 use Rattle.honest.specs.Honest.{Accepted, recordRead, listRead, Honest}
-use Rattle.exam_reading.specs.Reader.{sheetOf}
+use Rattle.exam_text.specs.Reader.{sheetOf}
 use Rattle.exam_answering.specs.Answer.{answerText}
-use Rattle.exam_reading.proofs.Records.{Rounds}
+use Rattle.exam_text.proofs.Records.{Rounds}
 use Rattle.exam_answering.specs.Printing.{printed, roundLength}
 use Rattle.exam_answering.proofs.LineKeys.{stringsOf}
 use Rattle.exam_answering.proofs.SheetSearch.{Ready, shares-room, sheet-laid, sheet-fits, sheet-accepted, sheet-printed, sheet-rounds}

@@ -8,7 +8,7 @@ use lib.ListN.{length, take, replicate, length-replicate}
 use lib.Seq.{take-append-seam}
 use Rattle.places.specs.Places.{putAt, overlay}
 use Rattle.places.proofs.Places.{putAt-overlay, overlay-nil}
-use Rattle.exam_reading.specs.Reader.{sheetOf}
+use Rattle.exam_text.specs.Reader.{sheetOf}
 use Rattle.exam_answering.specs.Answer.{answerText}
 use borrow.Author.Needs.{needs}
 use Rattle.exam_answering.proofs.solving.solve.Statement.{statement}

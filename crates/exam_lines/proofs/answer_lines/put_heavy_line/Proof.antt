@@ -5,7 +5,7 @@ use mathlib.Core.Path.{refl}
 use mathlib.Core.List.{List, [], _∷_}
 use borrow.Author.Needs.{needs}
 use Rattle.bits.specs.Packing.{unpack}
-use Rattle.exam_reading.specs.Characters.{space, newline, binary}
+use Rattle.exam_text.specs.Characters.{space, newline, binary}
 use Rattle.exam_lines.specs.Lines.{heavyWord}
 use Rattle.exam_lines.proofs.PrintedParts.{Wrote, second-room, third-room, fourth-room, four-written}
 use Rattle.exam_lines.proofs.answer_lines.put_heavy_line.Statement.{statement}

@@ -4,7 +4,7 @@ use native.Mathlib.Omega.{arith}
 use mathlib.Core.List.{List, [], _∷_}
 use borrow.Author.Needs.{needs}
 use Rattle.bits.specs.Packing.{unpack}
-use Rattle.exam_reading.specs.Characters.{space, newline, binary, decimal}
+use Rattle.exam_text.specs.Characters.{space, newline, binary, decimal}
 use Rattle.exam_lines.proofs.PrintedParts.{first-room, second-room, third-room, fourth-room, four-written}
 use Rattle.exam_lines.proofs.answer_lines.put_prefix_line.Statement.{statement}
 use Rattle.exam_lines.proofs.answer_lines.put_prefix_line.Tie as tie

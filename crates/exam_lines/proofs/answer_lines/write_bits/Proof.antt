@@ -11,7 +11,7 @@ use Rattle.places.specs.Lists.{digit}
 use Rattle.bits.specs.Packing.{bitsOf, unpack}
 use Rattle.places.specs.Places.{putAt}
 use Rattle.places.proofs.Places.{putAt-length, Grown, grown-start, grown-room, grown-more}
-use Rattle.exam_reading.specs.Characters.{glyph, binary}
+use Rattle.exam_text.specs.Characters.{glyph, binary}
 use Rattle.exam_lines.proofs.PrintedParts.{all-written}
 use Rattle.exam_lines.proofs.PrintedBits.{binary-none, binary-step}
 use Rattle.exam_lines.proofs.answer_lines.write_bits.Statement.{statement}

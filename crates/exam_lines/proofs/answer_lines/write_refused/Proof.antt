@@ -6,7 +6,7 @@ use mathlib.Core.List.{[], _∷_}
 use borrow.Author.Needs.{needs}
 use lib.ListN.{length}
 use Rattle.places.proofs.Places.{putAt-overlay}
-use Rattle.exam_reading.specs.Characters.{space, newline, decimal}
+use Rattle.exam_text.specs.Characters.{space, newline, decimal}
 use Rattle.exam_lines.specs.Lines.{refusedWord, refusedText}
 use Rattle.exam_lines.proofs.PrintedParts.{third-room, fourth-room, four-written}
 use Rattle.exam_lines.proofs.answer_lines.write_refused.Statement.{statement}

@@ -6,7 +6,7 @@ use borrow.Author.Needs.{needs}
 use borrow.Fn.Kinds.{In}
 use borrow.Fn.PlainCycle.{Measures, is, falls, and}
 use lib.ListN.{length}
-use Rattle.exam_reading.proofs.Decimals.{decimal-one, decimal-few}
+use Rattle.exam_text.proofs.Decimals.{decimal-one, decimal-few}
 use Rattle.exam_lines.proofs.LastDigit.{decimal-long-length}
 use Rattle.exam_lines.proofs.decimal.decimal_length.Reads as decimal-length
 use Rattle.exam_lines.proofs.decimal.decimal_length.Kinds as kinds

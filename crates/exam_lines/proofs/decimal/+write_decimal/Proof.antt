@@ -9,8 +9,8 @@ use borrow.Fn.PlainCycle.{Measures, is, falls, and}
 use lib.ListN.{length}
 use Rattle.places.specs.Places.{putAt}
 use Rattle.places.proofs.Places.{Grown, grown-start, grown-more, grown-room}
-use Rattle.exam_reading.specs.Characters.{decimal}
-use Rattle.exam_reading.proofs.Decimals.{decimal-one}
+use Rattle.exam_text.specs.Characters.{decimal}
+use Rattle.exam_text.proofs.Decimals.{decimal-one}
 use Rattle.exam_lines.proofs.PrintedParts.{all-written}
 use Rattle.exam_lines.proofs.LastDigit.{decimal-long, decimal-long-length}
 use Rattle.exam_lines.proofs.decimal.write_decimal.Reads as write-decimal

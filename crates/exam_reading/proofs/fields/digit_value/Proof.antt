@@ -2,7 +2,7 @@
 use borrow.Author.Needs.{needs}
 use native.Mathlib.Omega.{arith}
 use mathlib.Core.Path.{refl}
-use Rattle.exam_reading.proofs.Decimals.{decimal-low, decimal-high}
+use Rattle.exam_text.proofs.Decimals.{decimal-low, decimal-high}
 use Rattle.exam_reading.proofs.fields.digit_value.Statement.{statement}
 use Rattle.exam_reading.proofs.fields.digit_value.Tie as tie
 

@@ -7,8 +7,8 @@ use mathlib.Core.Path.{_≡_, refl, sym, ap, _∙_}
 use borrow.Author.Needs.{needs}
 use borrow.Author.Tests.{not-true, not-false}
 use lib.ListN.{length, drop}
-use Rattle.exam_reading.specs.Reader.{leading}
-use Rattle.exam_reading.proofs.Digits.{leading-past, leading-yes, leading-no}
+use Rattle.exam_text.specs.Reader.{leading}
+use Rattle.exam_text.proofs.Digits.{leading-past, leading-yes, leading-no}
 use Rattle.exam_reading.proofs.fields.digits_end.Statement.{statement}
 use Rattle.exam_reading.proofs.fields.digits_end.Tie as tie
 

@@ -4,9 +4,9 @@ use native.Mathlib.Omega.{arith}
 use Prim.Native.Nat.{_-_}
 use mathlib.Core.Path.{_≡_, sym, _∙_}
 use lib.ListN.{getD, drop}
-use Rattle.exam_reading.specs.Reader.{leading}
-use Rattle.exam_reading.proofs.Digits.{leading-cons}
-use Rattle.exam_reading.proofs.Field.{no-digit, too-many, one-digit, first-digit}
+use Rattle.exam_text.specs.Reader.{leading}
+use Rattle.exam_text.proofs.Digits.{leading-cons}
+use Rattle.exam_text.proofs.Field.{no-digit, too-many, one-digit, first-digit}
 use Rattle.exam_reading.proofs.fields.is_number.Statement.{statement}
 use Rattle.exam_reading.proofs.fields.is_number.Tie as tie
 

@@ -6,8 +6,8 @@ use native.Mathlib.Numerals.{add-one}
 use native.Mathlib.Omega.{arith}
 use mathlib.Core.Path.{_≡_, refl, sym, ap, _∙_}
 use lib.ListN.{length, drop}
-use Rattle.exam_reading.specs.Reader.{leading, numberAfter, firstNumber}
-use Rattle.exam_reading.proofs.Digits.{leading-cons, leading-digit, number-step, number-none, digits-more, five-digits}
+use Rattle.exam_text.specs.Reader.{leading, numberAfter, firstNumber}
+use Rattle.exam_text.proofs.Digits.{leading-cons, leading-digit, number-step, number-none, digits-more, five-digits}
 use Rattle.exam_reading.proofs.fields.number_in.Statement.{statement}
 use Rattle.exam_reading.proofs.fields.number_in.Tie as tie
 

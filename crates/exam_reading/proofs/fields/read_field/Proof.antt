@@ -6,8 +6,8 @@ use mathlib.Core.Bool.{true}
 use borrow.Author.Needs.{needs}
 use borrow.Author.Tests.{not-true, not-false}
 use lib.ListN.{length, getD, drop}
-use Rattle.exam_reading.specs.Reader.{leading, isNumber}
-use Rattle.exam_reading.proofs.Field.{number-short, field-no-number, field-other, field-within, field-laid}
+use Rattle.exam_text.specs.Reader.{leading, isNumber}
+use Rattle.exam_text.proofs.Field.{number-short, field-no-number, field-other, field-within, field-laid}
 use Rattle.exam_reading.proofs.fields.read_field.Statement.{statement}
 use Rattle.exam_reading.proofs.fields.read_field.Tie as tie
 

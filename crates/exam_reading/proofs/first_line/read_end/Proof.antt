@@ -2,7 +2,7 @@
 use borrow.Author.Needs.{needs}
 use native.Mathlib.Omega.{arith}
 use borrow.Author.Tests.{not-true, not-false}
-use Rattle.exam_reading.proofs.FirstLine.{end-without, end-none, end-with}
+use Rattle.exam_text.proofs.FirstLine.{end-without, end-none, end-with}
 use Rattle.exam_reading.proofs.first_line.read_end.Statement.{statement}
 use Rattle.exam_reading.proofs.first_line.read_end.Tie as tie
 

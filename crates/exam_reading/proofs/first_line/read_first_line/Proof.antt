@@ -2,7 +2,7 @@
 use borrow.Author.Needs.{needs}
 use native.Mathlib.Omega.{arith}
 use borrow.Author.Tests.{not-true, not-false}
-use Rattle.exam_reading.proofs.FirstLine.{no-line, no-first, no-second, line-read}
+use Rattle.exam_text.proofs.FirstLine.{no-line, no-first, no-second, line-read}
 use Rattle.exam_reading.proofs.first_line.read_first_line.Statement.{statement}
 use Rattle.exam_reading.proofs.first_line.read_first_line.Tie as tie
 

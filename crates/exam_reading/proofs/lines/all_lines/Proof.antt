@@ -6,8 +6,8 @@ use mathlib.Core.Path.{_≡_, refl, sym, _∙_}
 use borrow.Author.Tests.{not-true, not-false}
 use lib.ListN.{length, drop}
 use Rattle.query.proofs.Parts.{peel}
-use Rattle.exam_reading.specs.Reader.{lineLength, areLines}
-use Rattle.exam_reading.proofs.LineTests.{lines-none, lines-step}
+use Rattle.exam_text.specs.Reader.{lineLength, areLines}
+use Rattle.exam_text.proofs.LineTests.{lines-none, lines-step}
 use Rattle.exam_reading.proofs.lines.all_lines.Statement.{statement}
 use Rattle.exam_reading.proofs.lines.all_lines.Tie as tie
 

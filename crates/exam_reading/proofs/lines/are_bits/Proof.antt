@@ -5,8 +5,8 @@ use native.Mathlib.Numerals.{add-one}
 use native.Mathlib.Omega.{arith}
 use mathlib.Core.Path.{_≡_, refl, sym, _∙_}
 use lib.ListN.{length, take, drop}
-use Rattle.exam_reading.specs.Reader.{areBits}
-use Rattle.exam_reading.proofs.LineTests.{bits-none, bits-no, bits-yes}
+use Rattle.exam_text.specs.Reader.{areBits}
+use Rattle.exam_text.proofs.LineTests.{bits-none, bits-no, bits-yes}
 use Rattle.exam_reading.proofs.lines.are_bits.Statement.{statement}
 use Rattle.exam_reading.proofs.lines.are_bits.Tie as tie
 

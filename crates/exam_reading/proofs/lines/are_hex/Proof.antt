@@ -7,8 +7,8 @@ use mathlib.Core.Path.{_≡_, refl, sym, _∙_}
 use borrow.Author.Needs.{needs}
 use borrow.Author.Tests.{not-true, not-false}
 use lib.ListN.{length, take, drop}
-use Rattle.exam_reading.specs.Reader.{areHex}
-use Rattle.exam_reading.proofs.LineTests.{hex-none, hex-no, hex-yes}
+use Rattle.exam_text.specs.Reader.{areHex}
+use Rattle.exam_text.proofs.LineTests.{hex-none, hex-no, hex-yes}
 use Rattle.exam_reading.proofs.lines.are_hex.Statement.{statement}
 use Rattle.exam_reading.proofs.lines.are_hex.Tie as tie
 

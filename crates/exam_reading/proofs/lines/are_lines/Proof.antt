@@ -5,7 +5,7 @@ use native.Mathlib.Omega.{arith}
 use mathlib.Core.Path.{sym}
 use borrow.Author.Needs.{needs}
 use lib.ListN.{length-drop, drop}
-use Rattle.exam_reading.proofs.LineTests.{other-length}
+use Rattle.exam_text.proofs.LineTests.{other-length}
 use Rattle.exam_reading.proofs.lines.are_lines.Statement.{statement}
 use Rattle.exam_reading.proofs.lines.are_lines.Tie as tie
 

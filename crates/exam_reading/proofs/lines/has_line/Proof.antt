@@ -5,7 +5,7 @@ use mathlib.Core.Path.{_∙_}
 use borrow.Author.Needs.{needs}
 use borrow.Author.Tests.{le-leb, lt-leb}
 use lib.ListN.{length}
-use Rattle.exam_reading.specs.Reader.{lineLength, hasLine}
+use Rattle.exam_text.specs.Reader.{lineLength, hasLine}
 use Rattle.exam_reading.proofs.lines.has_line.Statement.{statement}
 use Rattle.exam_reading.proofs.lines.has_line.Tie as tie
 

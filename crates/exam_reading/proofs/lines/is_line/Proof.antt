@@ -4,7 +4,7 @@ use mathlib.Core.Path.{sym, _∙_}
 use borrow.Author.Needs.{needs}
 use borrow.Author.Tests.{not-true, not-false, eq-eqb, ne-eqb}
 use lib.ListN.{getD}
-use Rattle.exam_reading.proofs.LineTests.{line-tests}
+use Rattle.exam_text.proofs.LineTests.{line-tests}
 use Rattle.exam_reading.proofs.lines.is_line.Statement.{statement}
 use Rattle.exam_reading.proofs.lines.is_line.Tie as tie
 

@@ -4,7 +4,7 @@ use native.Mathlib.Omega.{arith}
 use Prim.Native.Nat.{_+_}
 use borrow.Author.Tests.{eq-eqb, ne-eqb}
 use lib.ListN.{getD}
-use Rattle.exam_reading.proofs.Values.{bit-past, bit-at}
+use Rattle.exam_text.proofs.Values.{bit-past, bit-at}
 use Rattle.exam_reading.proofs.parts.bit_read.Statement.{statement}
 use Rattle.exam_reading.proofs.parts.bit_read.Tie as tie
 

@@ -11,8 +11,8 @@ use Rattle.places.specs.Lists.{digit}
 use Rattle.bits.specs.Strings.{Bits}
 use Rattle.bits.specs.Packing.{value}
 use Rattle.bits.proofs.Packed.{value-below}
-use Rattle.exam_reading.specs.Reader.{bitsRead}
-use Rattle.exam_reading.proofs.Values.{byte-more, byte-fits, byte-whole}
+use Rattle.exam_text.specs.Reader.{bitsRead}
+use Rattle.exam_text.proofs.Values.{byte-more, byte-fits, byte-whole}
 use Rattle.exam_reading.proofs.parts.byte_read.Statement.{statement}
 use Rattle.exam_reading.proofs.parts.byte_read.Tie as tie
 

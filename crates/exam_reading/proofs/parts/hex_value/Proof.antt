@@ -3,9 +3,9 @@ use Prim.Native.Nat.{_-_}
 use native.Mathlib.Omega.{arith}
 use mathlib.Core.Path.{_≡_}
 use borrow.Author.Tests.{le-leb, lt-leb}
-use Rattle.exam_reading.specs.Reader.{hexValue}
-use Rattle.exam_reading.proofs.LineFields.{hex-digit}
-use Rattle.exam_reading.proofs.Values.{hex-decimal, hex-letter}
+use Rattle.exam_text.specs.Reader.{hexValue}
+use Rattle.exam_text.proofs.LineFields.{hex-digit}
+use Rattle.exam_text.proofs.Values.{hex-decimal, hex-letter}
 use Rattle.exam_reading.proofs.parts.hex_value.Statement.{statement}
 use Rattle.exam_reading.proofs.parts.hex_value.Tie as tie
 

@@ -7,8 +7,8 @@ use mathlib.Core.Path.{_≡_, refl, _∙_}
 use mathlib.Core.Bool.{true}
 use mathlib.Core.List.{List, _++_}
 use lib.ListN.{length, take, drop, length-set}
-use Rattle.exam_reading.specs.Reader.{areHex, bytesRead}
-use Rattle.exam_reading.proofs.Values.{bytes-step, high-hex, low-hex, rest-hex, seed-more, seed-whole}
+use Rattle.exam_text.specs.Reader.{areHex, bytesRead}
+use Rattle.exam_text.proofs.Values.{bytes-step, high-hex, low-hex, rest-hex, seed-more, seed-whole}
 use Rattle.exam_reading.proofs.parts.read_seed.Statement.{statement}
 use Rattle.exam_reading.proofs.parts.read_seed.Tie as tie
 

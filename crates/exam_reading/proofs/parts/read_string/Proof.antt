@@ -1,7 +1,7 @@
 -- `exam_reading::parts::read_string` meets its contract. Assumes nothing.
 use lib.ListN.{take, drop}
-use Rattle.exam_reading.specs.Reader.{bitsRead}
-use Rattle.exam_reading.proofs.Values.{four-bytes}
+use Rattle.exam_text.specs.Reader.{bitsRead}
+use Rattle.exam_text.proofs.Values.{four-bytes}
 use borrow.Author.Needs.{needs}
 use Rattle.exam_reading.proofs.parts.read_string.Statement.{statement}
 use Rattle.exam_reading.proofs.parts.read_string.Tie as tie

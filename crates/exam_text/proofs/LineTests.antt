@@ -11,7 +11,7 @@ use lib.Seq.{drop-cons, drop-drop, take-take, getD-take, getD-drop}
 use lib.Dec.{leb, eqb}
 use Rattle.query.proofs.Parts.{peel}
 use Rattle.places.proofs.Lists.{and-left, and-right}
-use Rattle.exam_reading.specs.Reader.{isHex, areBits, areHex, lineLength, stringPart, seed0Part, seed1Part, isLine, areLines}
+use Rattle.exam_text.specs.Reader.{isHex, areBits, areHex, lineLength, stringPart, seed0Part, seed1Part, isLine, areLines}
 
 -- ---- characters
 

@@ -11,11 +11,11 @@ use lib.Seq.{drop-drop, length-take-le}
 use lib.Dec.{leb}
 use Rattle.places.specs.Places.{Bytes}
 use Rattle.places.proofs.Lists.{and-left, and-right}
-use Rattle.exam_reading.specs.Sheet.{Line}
-use Rattle.exam_reading.specs.Reader.{areHex, bitsRead, bytesRead, lineLength, isLine, lineOf, areLines, linesOf, isFirstLine, afterFirstLine, lengthRead, countRead, isSheet, sheetOf, hasLine, noLine, lineAt}
-use Rattle.exam_reading.proofs.LineTests.{string-part, seed0-part, seed1-part, line-tests, tests-seed0, tests-seed1, lines-length}
-use Rattle.exam_reading.proofs.LinesText.{line-string, line-seeds}
-use Rattle.exam_reading.proofs.SheetTests.{lines-count}
+use Rattle.exam_text.specs.Sheet.{Line}
+use Rattle.exam_text.specs.Reader.{areHex, bitsRead, bytesRead, lineLength, isLine, lineOf, areLines, linesOf, isFirstLine, afterFirstLine, lengthRead, countRead, isSheet, sheetOf, hasLine, noLine, lineAt}
+use Rattle.exam_text.proofs.LineTests.{string-part, seed0-part, seed1-part, line-tests, tests-seed0, tests-seed1, lines-length}
+use Rattle.exam_text.proofs.LinesText.{line-string, line-seeds}
+use Rattle.exam_text.proofs.SheetTests.{lines-count}
 
 next-place : (i n : ℕ) (cs : List ℕ) → drop (i * lineLength n) (drop (lineLength n) cs) ≡ drop (suc i * lineLength n) cs
 next-place i n cs =

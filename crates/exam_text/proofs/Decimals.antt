@@ -10,8 +10,8 @@ use lib.ListN.{length, getD, length-append, List·getD-append, List·getD-eq-def
 use lib.Dec.{leb}
 use Rattle.places.specs.Lists.{All}
 use Rattle.places.proofs.Lists.{and-left, and-right}
-use Rattle.exam_reading.specs.Characters.{glyph, decimalIn}
-use Rattle.exam_reading.specs.Reader.{isDecimal, numberAfter}
+use Rattle.exam_text.specs.Characters.{glyph, decimalIn}
+use Rattle.exam_text.specs.Reader.{isDecimal, numberAfter}
 
 -- each character is a decimal digit
 abbrev pub Digits : List ℕ → Type 0

@@ -6,8 +6,8 @@ use mathlib.Core.List.{List}
 use borrow.Author.Tests.{le-leb, lt-leb}
 use lib.ListN.{length, drop}
 use lib.Dec.{leb}
-use Rattle.exam_reading.specs.Reader.{isFirstLine, afterFirstLine, lineLength, areLines, linesOf, isSheet, sheetOf, SheetSays}
-use Rattle.exam_reading.specs.Reading.{FirstLineSays}
+use Rattle.exam_text.specs.Reader.{isFirstLine, afterFirstLine, lineLength, areLines, linesOf, isSheet, sheetOf, SheetSays}
+use Rattle.exam_text.proofs.Reading.{FirstLineSays}
 
 pub lines-count : (n m : ℕ) (cs : List ℕ) → length (linesOf n m cs) ≡ m
 unfolding linesOf

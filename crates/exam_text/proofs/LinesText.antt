@@ -12,11 +12,11 @@ use Rattle.places.specs.Lists.{All}
 use Rattle.places.specs.Places.{Bytes}
 use Rattle.query.specs.Query.{OfLength}
 use Rattle.places.proofs.Lists.{and-left, and-right}
-use Rattle.exam_reading.specs.Characters.{space, newline, binary, hexadecimal}
-use Rattle.exam_reading.specs.Sheet.{Line, lineText, linesText}
-use Rattle.exam_reading.specs.Reader.{areBits, areHex, lineLength, stringPart, seed0Part, seed1Part, isLine, lineOf, areLines, linesOf}
-use Rattle.exam_reading.proofs.LineParts.{joined-length, joined-string, joined-first, joined-seed0, joined-second, joined-seed1, joined-third, whole-line, string-length, seed0-length, seed1-length}
-use Rattle.exam_reading.proofs.LineFields.{binary-length, binary-are-bits, read-binary, binary-read, hexadecimal-length, hexadecimal-are-hex, read-hexadecimal, hexadecimal-read, read-bytes}
+use Rattle.exam_text.specs.Characters.{space, newline, binary, hexadecimal}
+use Rattle.exam_text.specs.Sheet.{Line, lineText, linesText}
+use Rattle.exam_text.specs.Reader.{areBits, areHex, lineLength, stringPart, seed0Part, seed1Part, isLine, lineOf, areLines, linesOf}
+use Rattle.exam_text.proofs.LineParts.{joined-length, joined-string, joined-first, joined-seed0, joined-second, joined-seed1, joined-third, whole-line, string-length, seed0-length, seed1-length}
+use Rattle.exam_text.proofs.LineFields.{binary-length, binary-are-bits, read-binary, binary-read, hexadecimal-length, hexadecimal-are-hex, read-hexadecimal, hexadecimal-read, read-bytes}
 
 -- both seeds are 16 bytes
 abbrev pub Seeds : Line → Type 0

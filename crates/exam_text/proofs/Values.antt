@@ -16,10 +16,10 @@ use Rattle.bits.specs.Strings.{Bits}
 use Rattle.bits.specs.Packing.{packedLength, value, packIn, pack}
 use Rattle.bits.proofs.Packed.{value-nil}
 use Rattle.places.proofs.Lists.{and-left, and-right}
-use Rattle.exam_reading.specs.Reader.{isDecimal, isHex, hexValue, areHex, bytesRead, bitsRead}
-use Rattle.exam_reading.proofs.Decimals.{decimal-low, decimal-high}
-use Rattle.exam_reading.proofs.LineFields.{or-cases}
-use Rattle.exam_reading.proofs.LineTests.{take-step}
+use Rattle.exam_text.specs.Reader.{isDecimal, isHex, hexValue, areHex, bytesRead, bitsRead}
+use Rattle.exam_text.proofs.Decimals.{decimal-low, decimal-high}
+use Rattle.exam_text.proofs.LineFields.{or-cases}
+use Rattle.exam_text.proofs.LineTests.{take-step}
 
 -- ---- hexadecimal digits
 

@@ -8,9 +8,9 @@ use borrow.Author.Tests.{eqb-true, ne-eqb}
 use lib.ListN.{length, getD, drop}
 use lib.Dec.{eqb}
 use Rattle.places.proofs.Lists.{and-left, and-right}
-use Rattle.exam_reading.specs.Characters.{space, newline}
-use Rattle.exam_reading.specs.Reader.{leading, isNumber, numberThen, second, third, isFirstLine, expanderOf, afterFirstLine}
-use Rattle.exam_reading.specs.Reading.{FieldRead, EndSays, EndRead, FirstLineSays, FirstLineRead}
+use Rattle.exam_text.specs.Characters.{space, newline}
+use Rattle.exam_text.specs.Reader.{leading, isNumber, numberThen, second, third, isFirstLine, expanderOf, afterFirstLine}
+use Rattle.exam_text.proofs.Reading.{FieldRead, EndSays, EndRead, FirstLineSays, FirstLineRead}
 
 -- a number that a newline follows is not one that a space follows
 newline-ends : (cs : List ℕ) → numberThen newline cs ≡ true → numberThen space cs ≡ false

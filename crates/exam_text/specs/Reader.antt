@@ -7,8 +7,8 @@ use mathlib.Core.Option.{Option, none, some}
 use lib.ListN.{length, getD, take, drop, replicate}
 use lib.Dec.{leb, eqb}
 use Rattle.bits.specs.Strings.{Bits}
-use Rattle.exam_reading.specs.Characters.{space, newline}
-use Rattle.exam_reading.specs.Sheet.{Line, Sheet, expanderNumber}
+use Rattle.exam_text.specs.Characters.{space, newline}
+use Rattle.exam_text.specs.Sheet.{Line, Sheet, expanderNumber}
 
 -- ---- numbers
 

@@ -10,11 +10,11 @@ use borrow.Author.Tests.{eqb-true}
 use lib.ListN.{length, getD}
 use lib.Dec.{eqb}
 use Rattle.places.proofs.Lists.{and-left, and-right}
-use Rattle.exam_reading.specs.Characters.{space, newline, decimal}
-use Rattle.exam_reading.specs.Sheet.{FiveDigits, expanderNumber, expanderText}
-use Rattle.exam_reading.specs.Reader.{isDecimal, leading, isNumber, numberThen, firstNumber, behind, second, third, fourth, hasExpander, isFirstLine, expanderOf, afterFirstLine, lengthRead, thresholdRead, countRead}
-use Rattle.exam_reading.proofs.LineFields.{or-cases}
-use Rattle.exam_reading.proofs.NumberText.{printed-then, printed-ends, printed-first, printed-behind, read-below, read-text}
+use Rattle.exam_text.specs.Characters.{space, newline, decimal}
+use Rattle.exam_text.specs.Sheet.{FiveDigits, expanderNumber, expanderText}
+use Rattle.exam_text.specs.Reader.{isDecimal, leading, isNumber, numberThen, firstNumber, behind, second, third, fourth, hasExpander, isFirstLine, expanderOf, afterFirstLine, lengthRead, thresholdRead, countRead}
+use Rattle.exam_text.proofs.LineFields.{or-cases}
+use Rattle.exam_text.proofs.NumberText.{printed-then, printed-ends, printed-first, printed-behind, read-below, read-text}
 
 -- a first line, and what stands behind it
 abbrev pub firstText : ℕ → ℕ → ℕ → Option ℕ → List ℕ → List ℕ

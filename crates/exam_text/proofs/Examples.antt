@@ -6,9 +6,9 @@ use mathlib.Core.List.{List, [], _∷_, _++_}
 use mathlib.Core.Option.{Option, none, some}
 use lib.ListN.{length, take, drop, replicate}
 use Rattle.bits.specs.Strings.{Bits}
-use Rattle.exam_reading.specs.Characters.{binary, hexadecimal, decimalIn, decimal}
-use Rattle.exam_reading.specs.Sheet.{Line, Sheet, linesText, text}
-use Rattle.exam_reading.specs.Reader.{leading, numberAfter, isFirstLine, expanderOf, afterFirstLine, areBits, areHex, bytesRead, isLine, lineOf, areLines, linesOf, isSheet, sheetOf, readSheet}
+use Rattle.exam_text.specs.Characters.{binary, hexadecimal, decimalIn, decimal}
+use Rattle.exam_text.specs.Sheet.{Line, Sheet, linesText, text}
+use Rattle.exam_text.specs.Reader.{leading, numberAfter, isFirstLine, expanderOf, afterFirstLine, areBits, areHex, bytesRead, isLine, lineOf, areLines, linesOf, isSheet, sheetOf, readSheet}
 
 -- opens the definitions that write a text
 writes : Unit {0}

@@ -1,4 +1,3 @@
 pub mod Characters
 pub mod Sheet
 pub mod Reader
-pub mod Reading

@@ -10,8 +10,8 @@ use lib.ListN.{length, getD, drop, List·getD-eq-default}
 use lib.Seq.{drop-drop, getD-drop}
 use lib.Dec.{leb, eqb}
 use Rattle.places.proofs.Lists.{and-left, and-right}
-use Rattle.exam_reading.specs.Reader.{leading, isNumber, numberThen, firstNumber, behind}
-use Rattle.exam_reading.specs.Reading.{FieldRead}
+use Rattle.exam_text.specs.Reader.{leading, isNumber, numberThen, firstNumber, behind}
+use Rattle.exam_text.proofs.Reading.{FieldRead}
 
 -- ---- whether digits are a number
 

@@ -5,9 +5,9 @@ use mathlib.Core.Bool.{Bool, true, cond, _&&_, _||_}
 use mathlib.Core.List.{List}
 use mathlib.Core.Option.{Option, none, some}
 use lib.ListN.{length, drop}
-use Rattle.exam_reading.specs.Characters.{space, newline}
-use Rattle.exam_reading.specs.Sheet.{expanderNumber}
-use Rattle.exam_reading.specs.Reader.{numberThen, firstNumber, behind, isFirstLine, lengthRead, thresholdRead, countRead, expanderOf, afterFirstLine}
+use Rattle.exam_text.specs.Characters.{space, newline}
+use Rattle.exam_text.specs.Sheet.{expanderNumber}
+use Rattle.exam_text.specs.Reader.{numberThen, firstNumber, behind, isFirstLine, lengthRead, thresholdRead, countRead, expanderOf, afterFirstLine}
 
 -- the place `here` of a text is where the rest begins
 pub record Rest (text : List ℕ) (here : ℕ) (rest : List ℕ) : Type 0 where

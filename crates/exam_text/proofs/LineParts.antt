@@ -5,7 +5,7 @@ use mathlib.Core.Path.{_≡_, refl, sym, ap, _∙_}
 use mathlib.Core.List.{List, [], _∷_, _++_}
 use lib.ListN.{length, getD, take, drop, length-append, length-drop, take-append-drop, drop-of-length-le}
 use lib.Seq.{take-at, getD-at, drop-cons, drop-drop, drop-append-add, getD-append-add, length-take-le}
-use Rattle.exam_reading.specs.Reader.{lineLength, stringPart, seed0Part, seed1Part}
+use Rattle.exam_text.specs.Reader.{lineLength, stringPart, seed0Part, seed1Part}
 
 -- three fields with a character behind each
 abbrev pub joined : List ℕ → ℕ → List ℕ → ℕ → List ℕ → ℕ → List ℕ

@@ -11,9 +11,9 @@ use lib.ListN.{length, length-append}
 use lib.Dec.{ltb}
 use Rattle.places.specs.Lists.{All}
 use Rattle.query.specs.Query.{OfLength}
-use Rattle.exam_reading.specs.Characters.{glyph, decimalIn}
-use Rattle.exam_reading.specs.Sheet.{Line, Sheet, strings, expanderNumber, lineText, linesText, expanderText, text, FiveDigits}
-use Rattle.exam_reading.proofs.LinesText.{Seeds, line-length}
+use Rattle.exam_text.specs.Characters.{glyph, decimalIn}
+use Rattle.exam_text.specs.Sheet.{Line, Sheet, strings, expanderNumber, lineText, linesText, expanderText, text, FiveDigits}
+use Rattle.exam_text.proofs.LinesText.{Seeds, line-length}
 
 -- ---- characters
 

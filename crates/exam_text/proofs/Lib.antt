@@ -15,3 +15,4 @@ pub mod Placed
 pub mod TextLengths
 pub mod Examples
 pub mod Records
+pub mod Reading

@@ -8,7 +8,7 @@ use mathlib.Core.Bool.{Bool, true, false, cond}
 use mathlib.Core.List.{List, [], _∷_}
 use lib.ListN.{length, getD, drop, drop-of-length-le}
 use lib.Seq.{drop-cons}
-use Rattle.exam_reading.specs.Reader.{isDecimal, leading, numberAfter}
+use Rattle.exam_text.specs.Reader.{isDecimal, leading, numberAfter}
 
 -- ---- the digits at a place
 

@@ -7,7 +7,7 @@ use Rattle.places.specs.Lists.{All}
 use Rattle.bits.specs.Strings.{Bits}
 use Rattle.places.specs.Places.{Bytes}
 use Rattle.query.specs.Query.{OfLength}
-use Rattle.exam_reading.specs.Characters.{space, newline, binary, hexadecimal, decimal}
+use Rattle.exam_text.specs.Characters.{space, newline, binary, hexadecimal, decimal}
 
 -- One line of a sheet: an installation's string and its two root seeds.
 pub record Line : Type 0 where

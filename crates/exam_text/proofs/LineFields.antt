@@ -13,9 +13,9 @@ use Rattle.bits.specs.Strings.{Bits}
 use Rattle.places.specs.Places.{Bytes}
 use Rattle.places.proofs.Places.{bytes-head, bytes-tail}
 use Rattle.places.proofs.Lists.{and-left, and-right}
-use Rattle.exam_reading.specs.Characters.{glyph, binary, hexadecimal}
-use Rattle.exam_reading.specs.Reader.{isDecimal, areBits, bitsRead, isHex, hexValue, areHex, bytesRead}
-use Rattle.exam_reading.proofs.Decimals.{decimal-low, decimal-high, in-decimal, glyph-low, glyph-high}
+use Rattle.exam_text.specs.Characters.{glyph, binary, hexadecimal}
+use Rattle.exam_text.specs.Reader.{isDecimal, areBits, bitsRead, isHex, hexValue, areHex, bytesRead}
+use Rattle.exam_text.proofs.Decimals.{decimal-low, decimal-high, in-decimal, glyph-low, glyph-high}
 
 -- ---- strings of bits
 

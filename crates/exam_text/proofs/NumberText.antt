@@ -11,9 +11,9 @@ use lib.ListN.{length, getD, drop, List·getD-eq-default}
 use lib.Seq.{drop-cons, getD-append-seam, drop-append-add}
 use lib.Dec.{leb, eqb}
 use Rattle.places.proofs.Lists.{and-left, and-right}
-use Rattle.exam_reading.specs.Characters.{decimalIn, decimal}
-use Rattle.exam_reading.specs.Reader.{isDecimal, leading, numberAfter, isNumber, numberThen, firstNumber, behind}
-use Rattle.exam_reading.proofs.Decimals.{Digits, decimal-low, decimal-high, decimal-one, decimal-enough, decimal-digits, decimal-some, decimal-few, decimal-first, number-decimal, decimal-after}
+use Rattle.exam_text.specs.Characters.{decimalIn, decimal}
+use Rattle.exam_text.specs.Reader.{isDecimal, leading, numberAfter, isNumber, numberThen, firstNumber, behind}
+use Rattle.exam_text.proofs.Decimals.{Digits, decimal-low, decimal-high, decimal-one, decimal-enough, decimal-digits, decimal-some, decimal-few, decimal-first, number-decimal, decimal-after}
 
 -- what the layout as a number says of digits
 pub record Laid (ds : List ℕ) : Type 0 where

@@ -10,10 +10,10 @@ use borrow.Author.Tests.{leb-true, le-leb}
 use lib.ListN.{length}
 use lib.Dec.{leb}
 use Rattle.places.proofs.Lists.{and-left, and-right}
-use Rattle.exam_reading.specs.Sheet.{Line, Sheet, text, linesText, Within}
-use Rattle.exam_reading.specs.Reader.{isFirstLine, areLines, lengthRead, countRead, afterFirstLine, isSheet, sheetOf, readSheet}
-use Rattle.exam_reading.proofs.LinesText.{lines-are-lines, read-lines, LinesRead, lines-read}
-use Rattle.exam_reading.proofs.FirstLineText.{FirstLine, first-printed, FirstLineRead, first-read}
+use Rattle.exam_text.specs.Sheet.{Line, Sheet, text, linesText, Within}
+use Rattle.exam_text.specs.Reader.{isFirstLine, areLines, lengthRead, countRead, afterFirstLine, isSheet, sheetOf, readSheet}
+use Rattle.exam_text.proofs.LinesText.{lines-are-lines, read-lines, LinesRead, lines-read}
+use Rattle.exam_text.proofs.FirstLineText.{FirstLine, first-printed, FirstLineRead, first-read}
 
 -- ---- the text of a sheet is read
 

@@ -1,0 +1,1 @@
+// Exam sheets and their texts: definitions and theorems. It has no code.
