@@ -7,7 +7,7 @@ use lib.Bits.{bitAnd, bitXor, and-le-r, and-block, and-mask, xor-block}
 use lib.Dec.{lit<}
 use Rattle.gf256.specs.Field.{_·_}
 use Rattle.aes.specs.Fips197.{sumWord, rotWord, mixColumn}
-use Rattle.aes.specs.Layout.{fourBytes}
+use Rattle.aes.specs.StateLayout.{fourBytes}
 use Rattle.gf256.proofs.Lists.{cons4}
 use Rattle.gf256.proofs.Products.{doubling, double-byte, doubling-lt, mixed}
 use Rattle.aes.proofs.Words.{byte, packed, nested, whole}

@@ -6,7 +6,7 @@ use native.Mathlib.Nat.{div-add-mod', div-div-eq-div-mul, mod-eq-of-lt}
 use native.Mathlib.Omega.{arith}
 use lib.Bits.{bitXor, xor-shr, xor-mod}
 use Rattle.aes.specs.Fips197.{sumWord, rotWord}
-use Rattle.aes.specs.Layout.{fourBytes}
+use Rattle.aes.specs.StateLayout.{fourBytes}
 use Rattle.gf256.proofs.Lists.{cons4}
 
 pub byte : (x : ℕ) → x % 256 < 256

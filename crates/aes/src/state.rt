@@ -2,7 +2,7 @@
 ghost use mathlib.Core.Path.{_≡_};
 ghost use Prim.Native.Nat.{_+_, _<_};
 ghost use Rattle.aes.specs.Fips197.{sBoxTable, subBytes, shiftRows, mixColumns, addRoundKey, rcon, nextRoundKey, round, lastRound};
-ghost use Rattle.aes.specs.Layout.{bytesOf};
+ghost use Rattle.aes.specs.StateLayout.{bytesOf};
 use crate::word::Word;
 
 // A state as its four columns, or a round key as its four words.

@@ -4,7 +4,7 @@ ghost use mathlib.Core.List.{[], _∷_, map};
 ghost use Prim.Native.Nat.{_+_, _<_};
 ghost use Rattle.gf256.specs.Field.{_·_};
 ghost use Rattle.aes.specs.Fips197.{sBoxTable, _‼_, sumWord, mixColumn, rotWord, subWord, rcon};
-ghost use Rattle.aes.specs.Layout.{wordOf};
+ghost use Rattle.aes.specs.StateLayout.{wordOf};
 use crate::sbox::sub;
 
 // The first bytes of the ten round constants.

@@ -3,7 +3,7 @@ use Prim.Native.Nat.{ℕ}
 use mathlib.Core.Bool.{Bool, true, false, _&&_, Bool·beq}
 use mathlib.Core.List.{List, [], _∷_, _++_}
 use lib.Dec.{T}
-use Rattle.places.specs.Lists.{All, number}
+use Rattle.places.specs.Lists.{All, howMany}
 
 abbrev pub Bits : Type 0
 Bits = List Bool
@@ -21,7 +21,7 @@ isPrefix (b ∷ q) (c ∷ s) = Bool·beq b c && isPrefix q s
 
 -- how many of the strings have the prefix q
 abbrev pub count : List Bits → Bits → ℕ
-count xs q = number (isPrefix q) xs
+count xs q = howMany (isPrefix q) xs
 
 -- whether p stands before q, of one length: at the first place where they differ, p has 0 and q has 1
 abbrev pub isBefore : Bits → Bits → Bool

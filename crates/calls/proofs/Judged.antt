@@ -135,16 +135,16 @@ pub judged-clear : (cs : List Cause) (bytes : List ℕ) → Numbered cs → judg
 judged-clear cs bytes l h = number-clear cs l (sym (judged-due cs bytes) ∙ h)
 
 -- what a call returns and leaves, part by part
-pub exit-equal : {r : Reply} {space : List ℕ} {e : Exit} → r .number ≡ e .number → r .length ≡ e .length → space ≡ e .space → left r space ≡ e
+pub exit-equal : {r : Reply} {area : List ℕ} {e : Exit} → r .number ≡ e .number → r .length ≡ e .length → area ≡ e .area → left r area ≡ e
 exit-equal h k l = rw (h, k, l)
 
 -- the same from the parts of an outcome, and back
-module _ {r : Reply} {space : List ℕ} (entry : List ℕ) (o : Outcome) where
-  pub replied : (r .number ≡ o .number) × ((r .length ≡ length (o .written)) × (space ≡ overlay (o .written) entry)) → left r space ≡ exit o entry
+module _ {r : Reply} {area : List ℕ} (entry : List ℕ) (o : Outcome) where
+  pub replied : (r .number ≡ o .number) × ((r .length ≡ length (o .written)) × (area ≡ overlay (o .written) entry)) → left r area ≡ exit o entry
   replied h = exit-equal (h .0) (h .1 .0) (h .1 .1)
 
-  pub reply-parts : left r space ≡ exit o entry → (r .number ≡ o .number) × ((r .length ≡ length (o .written)) × (space ≡ overlay (o .written) entry))
-  reply-parts e = (ap (λ (x : Exit). x .number) e, (ap (λ (x : Exit). x .length) e, ap (λ (x : Exit). x .space) e))
+  pub reply-parts : left r area ≡ exit o entry → (r .number ≡ o .number) × ((r .length ≡ length (o .written)) × (area ≡ overlay (o .written) entry))
+  reply-parts e = (ap (λ (x : Exit). x .number) e, (ap (λ (x : Exit). x .length) e, ap (λ (x : Exit). x .area) e))
 
 -- facts of the elements of a list, one by one
 infixr 40 _&_

@@ -29,12 +29,12 @@ judged (c ∷ cs) bytes = cond (c .test) (refused (c .number)) (judged cs bytes)
 pub record Exit : Type 0 where
   pub number : ℕ
   pub length : ℕ
-  pub space : List ℕ
+  pub area : List ℕ
 
 -- those of an outcome, where the space held these bytes at entry: what is written stands in the place of its beginning, the rest is as it was
 abbrev pub exit : Outcome → List ℕ → Exit
-exit o entry = record { number = o .number; length = length (o .written); space = overlay (o .written) entry }
+exit o entry = record { number = o .number; length = length (o .written); area = overlay (o .written) entry }
 
 -- what was returned, and the space as it was left
 abbrev pub left : Reply → List ℕ → Exit
-left r space = record { number = r .number; length = r .length; space = space }
+left r area = record { number = r .number; length = r .length; area = area }

@@ -9,10 +9,10 @@ use Rattle.capi.specs.Combined.{InC, kindNumber}
 
 -- an exit with the kind as a number
 abbrev pub asNumbers : CombineExit → InC
-asNumbers x = record { number = x .number; kind = kindNumber (x .kind); length = x .length; space = x .space }
+asNumbers x = record { number = x .number; kind = kindNumber (x .kind); length = x .length; area = x .area }
 
 -- a case of the answer, as it is returned to C
-pub told-in-c : (r s : Combined) {space : List ℕ} {x : CombineExit} → r ≡ s → told r space ≡ x
-    → asNumbers (record { number = numberOf s; kind = kindOf s; length = lengthOf s; space = space }) ≡ asNumbers x
+pub told-in-c : (r s : Combined) {area : List ℕ} {x : CombineExit} → r ≡ s → told r area ≡ x
+    → asNumbers (record { number = numberOf s; kind = kindOf s; length = lengthOf s; area = area }) ≡ asNumbers x
 unfolding told
-told-in-c r s {space} h e = ap (λ (c : Combined). asNumbers (record { number = numberOf c; kind = kindOf c; length = lengthOf c; space = space })) (sym h) ∙ ap asNumbers e
+told-in-c r s {area} h e = ap (λ (c : Combined). asNumbers (record { number = numberOf c; kind = kindOf c; length = lengthOf c; area = area })) (sym h) ∙ ap asNumbers e

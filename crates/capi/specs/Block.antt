@@ -20,4 +20,4 @@ blockOutcome e seed j room = judged (blockCauses e seed room) (under (choiceOf e
 
 -- what the call returns, and the space that it is lent, at exit
 abbrev pub blockExit : ℕ → List ℕ → ℕ → List ℕ → Exit
-blockExit e seed j space = exit (blockOutcome e seed j (length space)) space
+blockExit e seed j area = exit (blockOutcome e seed j (length area)) area

@@ -18,14 +18,14 @@ pub record InC : Type 0 where
   pub number : ℕ
   pub kind : ℕ
   pub length : ℕ
-  pub space : List ℕ
+  pub area : List ℕ
 
 -- what combining returns, and the space that it is lent, at exit
 abbrev pub combineInC : ℕ → ℕ → List ℕ → List ℕ → List ℕ → List ℕ → InC
-combineInC n t query share0 share1 space =
-    let x = combineExit n t query share0 share1 space in
-    record { number = x .number; kind = kindNumber (x .kind); length = x .length; space = x .space }
+combineInC n t query share0 share1 area =
+    let x = combineExit n t query share0 share1 area in
+    record { number = x .number; kind = kindNumber (x .kind); length = x .length; area = x .area }
 
 -- what was returned, and the space as it was left
 abbrev pub inC : CombineReply → List ℕ → InC
-inC r space = record { number = r .number; kind = r .kind; length = r .length; space = space }
+inC r area = record { number = r .number; kind = r .kind; length = r .length; area = area }

@@ -18,7 +18,7 @@ use Rattle.query.specs.Query.{query, limit, IsQuery, prefixLength, prefixesOf, 
 use Rattle.tree.proofs.Asked.{next-query}
 use Rattle.query.proofs.Queries.{ascending-test}
 use Rattle.query.proofs.Ready.{ready as query-ready}
-use Rattle.combine.specs.Answer.{Answer, next, list, ended, further, answer, answerBytes, Kind, nextQuery, heavyList, searchEnded, kind}
+use Rattle.combine.specs.Answer.{Answer, next, list, ended, further, answerAt, answerBytes, Kind, nextQuery, heavyList, searchEnded, kind}
 use Rattle.combine.specs.Combine.{shareTotals, keptPrefixes, combineAnswer, combineBytes, passesLimit, combineCauses, combineOutcome, combineKind}
 use Rattle.combine.proofs.Ready.{Ready, clear-ready, kept-long}
 
@@ -28,7 +28,7 @@ pub record GoesOn (n k : ℕ) (ps qs : List Bits) : Type 0 where
   pub some : 1 ≤ length ps
   pub both : qs ≡ children ps
 
-goes-on : (n k : ℕ) (ps qs : List Bits) → answer n k ps ≡ next qs → GoesOn n k ps qs
+goes-on : (n k : ℕ) (ps qs : List Bits) → answerAt n k ps ≡ next qs → GoesOn n k ps qs
 goes-on n k ps qs e = go (eqb k n) refl ps e
   where
     go : (b : Bool) → eqb k n ≡ b → (ps : List Bits) → cond b (list ps) (further ps) ≡ next qs → GoesOn n k ps qs

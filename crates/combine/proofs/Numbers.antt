@@ -6,7 +6,7 @@ use mathlib.Core.Bool.{Bool, true, false}
 use mathlib.Core.List.{List, _∷_}
 use borrow.Author.Tests.{lt-ltb, le-ltb}
 use lib.ListN.{length}
-use Rattle.places.specs.Lists.{digit, number}
+use Rattle.places.specs.Lists.{digit, howMany}
 use Rattle.numbers.specs.Numbers.{fromLittle}
 use Rattle.places.specs.Places.{window}
 use Rattle.group.specs.Modular.{p, field}
@@ -48,16 +48,16 @@ module _ (s0 s1 : List ℕ) where
 
     -- b tells whether the first of them passes
     module _ (passes : ℕ → Bool) (b : Bool) (e : b ≡ passes (totalAt place)) where
-      number-step : number passes (totalsFrom m place) ≡ digit b + number passes (totalsFrom (m - 1) (place + 8))
+      number-step : howMany passes (totalsFrom m place) ≡ digit b + howMany passes (totalsFrom (m - 1) (place + 8))
       number-step = rw (totals-step, e)
 
-      pub number-yes : b ≡ true → number passes (totalsFrom m place) ≡ 1 + number passes (totalsFrom (m - 1) (place + 8))
+      pub number-yes : b ≡ true → howMany passes (totalsFrom m place) ≡ 1 + howMany passes (totalsFrom (m - 1) (place + 8))
       number-yes h = number-step ∙ rw h
 
-      pub number-no : b ≡ false → number passes (totalsFrom m place) ≡ number passes (totalsFrom (m - 1) (place + 8))
+      pub number-no : b ≡ false → howMany passes (totalsFrom m place) ≡ howMany passes (totalsFrom (m - 1) (place + 8))
       number-no h = number-step ∙ rw h (omega arith)
 
-  pub number-none : (passes : ℕ → Bool) (m place : ℕ) → m ≤ 0 → number passes (totalsFrom m place) ≡ 0
+  pub number-none : (passes : ℕ → Bool) (m place : ℕ) → m ≤ 0 → howMany passes (totalsFrom m place) ≡ 0
   unfolding parts
   number-none passes zero place h = refl
   number-none passes (suc m) place h = absurd (omega arith)

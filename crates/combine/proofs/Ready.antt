@@ -7,7 +7,7 @@ use mathlib.Core.List.{List, [], _∷_}
 use borrow.Author.Tests.{eqb-true, not-false}
 use lib.ListN.{length, getD}
 use lib.Dec.{eqb}
-use Rattle.places.specs.Lists.{number}
+use Rattle.places.specs.Lists.{howMany}
 use Rattle.bits.specs.Packing.{packedLength}
 use Rattle.calls.specs.Bounds.{mostBits}
 use Rattle.calls.specs.Causes.{numberDue}
@@ -80,7 +80,7 @@ module _ (n t : ℕ) (q s0 s1 : List ℕ) (byte : (i : ℕ) → getD q i 0 < 256
   pub kept-long : OfLength (prefixLength q) (passing passes q s0 s1)
   kept-long = kept-all passes _ (prefixesOf q) (shareTotals s0 s1) (prefixes-long n q byte (r .a-query))
 
-  module _ (m : ℕ) (e : m ≡ number passes (shareTotals s0 s1)) where
+  module _ (m : ℕ) (e : m ≡ howMany passes (shareTotals s0 s1)) where
     pub kept-count : length (passing passes q s0 s1) ≡ m
     kept-count =
         let l : length (numbers s0) ≡ length (numbers s1) = omega (arith, numbers-length s0, numbers-length s1, r .first, r .second) in

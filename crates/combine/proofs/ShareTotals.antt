@@ -12,7 +12,7 @@ use Rattle.group.specs.Modular.{field}
 use Rattle.kept.specs.Kept.{kept}
 use Rattle.kept.proofs.Kept.{kept-select}
 use Rattle.query.specs.Query.{prefixesOf}
-use Rattle.tree.specs.Search.{totals}
+use Rattle.tree.specs.SearchRule.{totals}
 use Rattle.tree.proofs.Lengths.{totals-length}
 use Rattle.tree.proofs.Read.{totals-read}
 use Rattle.combine.specs.Answer.{numbers, added}

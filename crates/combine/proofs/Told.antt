@@ -7,7 +7,7 @@ use mathlib.Core.List.{List}
 use borrow.Author.Tests.{lt-ltb, le-ltb}
 use lib.ListN.{length, getD}
 use lib.Dec.{ltb}
-use Rattle.places.specs.Lists.{number}
+use Rattle.places.specs.Lists.{howMany}
 use Rattle.bits.specs.Strings.{Bits}
 use Rattle.bits.specs.Packing.{packedLength}
 use Rattle.places.specs.Places.{putAt}
@@ -28,7 +28,7 @@ or-right false b h = h
 
 -- m are kept; len is the prefix length, w the bytes of a prefix
 module _ (n t : ℕ) (q s0 s1 d : List ℕ) (byte : (i : ℕ) → getD q i 0 < 256) (r : Ready n t q s0 s1)
-    (m : ℕ) (em : m ≡ number (reaches t) (shareTotals s0 s1)) (len : ℕ) (el : len ≡ prefixLength q) where
+    (m : ℕ) (em : m ≡ howMany (reaches t) (shareTotals s0 s1)) (len : ℕ) (el : len ≡ prefixLength q) where
   abbrev ks : List Bits
   ks = keptPrefixes t q s0 s1
 

@@ -10,7 +10,7 @@ use Rattle.numbers.specs.Numbers.{fromLittle}
 use Rattle.group.specs.Group.{Group}
 use Rattle.query.specs.Query.{packs, query, parts, children}
 use Rattle.combine.specs.declared.Combined.{Combined}
-use Rattle.combine.specs.declared.Combined.the-variants.{Next, List as Found, Ended, Refused}
+use Rattle.combine.specs.declared.Combined.the-variants.{Next, List as Listed, Ended, Refused}
 
 -- ---- totals
 
@@ -38,8 +38,8 @@ further [] = ended
 further (p ∷ ps) = next (children (p ∷ ps))
 
 -- the answer where the prefixes ps, of k bits each, are kept: at length n the list, empty or not
-abbrev pub answer : ℕ → ℕ → List Bits → Answer
-answer n k ps = cond (eqb k n) (list ps) (further ps)
+abbrev pub answerAt : ℕ → ℕ → List Bits → Answer
+answerAt n k ps = cond (eqb k n) (list ps) (further ps)
 
 -- what is written of an answer to a query for prefixes of k bits
 abbrev pub answerBytes : ℕ → Answer → List ℕ
@@ -63,20 +63,20 @@ kind ended = searchEnded
 -- the number of what the call returns, 0 unless it is refused
 abbrev pub numberOf : Combined → ℕ
 numberOf (Next length) = 0
-numberOf (Found length) = 0
+numberOf (Listed length) = 0
 numberOf Ended = 0
 numberOf (Refused number) = number
 
 -- its length
 abbrev pub lengthOf : Combined → ℕ
 lengthOf (Next length) = length
-lengthOf (Found length) = length
+lengthOf (Listed length) = length
 lengthOf Ended = 0
 lengthOf (Refused number) = 0
 
 -- its kind; a refusal has none of the three
 abbrev pub kindOf : Combined → Option Kind
 kindOf (Next length) = some nextQuery
-kindOf (Found length) = some heavyList
+kindOf (Listed length) = some heavyList
 kindOf Ended = some searchEnded
 kindOf (Refused number) = none

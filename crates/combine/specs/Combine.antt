@@ -16,7 +16,7 @@ use Rattle.group.specs.Modular.{modulus, field}
 use Rattle.kept.specs.declared.Rule.{Rule}
 use Rattle.kept.specs.Kept.{reaches, reachesBy, kept}
 use Rattle.query.specs.Query.{limit, IsQuery, isQuery, prefixLength, prefixCount, prefixesOf}
-use Rattle.combine.specs.Answer.{numbers, added, Answer, next, list, ended, answer, answerBytes, Kind, kind, numberOf, lengthOf, kindOf}
+use Rattle.combine.specs.Answer.{numbers, added, Answer, next, list, ended, answerAt, answerBytes, Kind, kind, numberOf, lengthOf, kindOf}
 use Rattle.combine.specs.declared.Combined.{Combined}
 
 -- Two lent shares have the wrong length: their lengths differ or are no multiple of 8, or the query passes 9 and its count is another.
@@ -56,7 +56,7 @@ keptPrefixes t = passing (reaches t)
 
 -- the answer
 abbrev pub combineAnswer : ℕ → ℕ → List ℕ → List ℕ → List ℕ → Answer
-combineAnswer n t query share0 share1 = answer n (prefixLength query) (keptPrefixes t query share0 share1)
+combineAnswer n t query share0 share1 = answerAt n (prefixLength query) (keptPrefixes t query share0 share1)
 
 -- what is to be written
 abbrev pub combineBytes : ℕ → ℕ → List ℕ → List ℕ → List ℕ → List ℕ
@@ -110,14 +110,14 @@ pub record CombineExit : Type 0 where
   pub number : ℕ
   pub kind : Option Kind
   pub length : ℕ
-  pub space : List ℕ
+  pub area : List ℕ
 
 -- what the call returns, and the space that it is lent, at exit
 abbrev pub combineExit : ℕ → ℕ → List ℕ → List ℕ → List ℕ → List ℕ → CombineExit
-combineExit n t query share0 share1 space =
-    let o = combineOutcome n t query share0 share1 (length space) in
-    record { number = o .number; kind = combineKind n t query share0 share1 (length space); length = length (o .written); space = overlay (o .written) space }
+combineExit n t query share0 share1 area =
+    let o = combineOutcome n t query share0 share1 (length area) in
+    record { number = o .number; kind = combineKind n t query share0 share1 (length area); length = length (o .written); area = overlay (o .written) area }
 
 -- what was returned, and the space as it was left
 unfoldable pub told : Combined → List ℕ → CombineExit
-told r space = record { number = numberOf r; kind = kindOf r; length = lengthOf r; space = space }
+told r area = record { number = numberOf r; kind = kindOf r; length = lengthOf r; area = area }

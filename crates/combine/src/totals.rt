@@ -4,7 +4,7 @@ use numbers::read_le8;
 ghost use mathlib.Core.Path.{_≡_};
 ghost use Prim.Native.Nat.{_*_, _≤_};
 ghost use lib.ListN.{length};
-ghost use Rattle.places.specs.Lists.{number};
+ghost use Rattle.places.specs.Lists.{howMany};
 ghost use Rattle.numbers.specs.Numbers.{fromLittle};
 ghost use Rattle.places.specs.Places.{window};
 ghost use Rattle.group.specs.Modular.{field};
@@ -28,7 +28,7 @@ pub(crate) fn is_kept(rule: Rule, share0: &[u8], share1: &[u8], at: usize) -> bo
 // How many prefixes are kept.
 pub(crate) fn count_kept(rule: Rule, share0: &[u8], share1: &[u8]) -> usize
     requires { ⌜ length (now share0) ≡ length (now share1) ⌝ }
-    ensures { λ r. ⌜ (r ≡ number (reachesBy rule) (shareTotals (now (share0 .entry)) (now (share1 .entry)))) × (8 * r ≤ length (now (share0 .entry))) ⌝ }
+    ensures { λ r. ⌜ (r ≡ howMany (reachesBy rule) (shareTotals (now (share0 .entry)) (now (share1 .entry)))) × (8 * r ≤ length (now (share0 .entry))) ⌝ }
 {
     let mut left = share0.len() / 8;
     let mut place = 0;

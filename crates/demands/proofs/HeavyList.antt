@@ -15,7 +15,7 @@ use Rattle.expander.specs.declared.Expander.the-variants.{Aes, Classroom}
 use Rattle.expander.specs.declared.Choice.the-variants.{Known}
 use Rattle.query.specs.Query.{packs, IsQuery, prefixCount, prefixesOf}
 use Rattle.query.proofs.Queries.{query-passes}
-use Rattle.tree.specs.Search.{totals}
+use Rattle.tree.specs.SearchRule.{totals}
 use Rattle.tree.specs.Cut.{honestList}
 use Rattle.tree.proofs.Agree.{totals-same}
 use Rattle.tree.proofs.Totals.{honest-fits}

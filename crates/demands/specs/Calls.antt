@@ -131,7 +131,7 @@ pub record Result : Type 0 where
 abbrev pub into : List ℕ → Option Kind → Outcome → Result
 into out kind o =
     let x = exit o out in
-    record { number = x .number; areas = record { entry = out; exit = x .space; returned = x .length; isRecord = false } ∷ []; kind = kind }
+    record { number = x .number; areas = record { entry = out; exit = x .area; returned = x .length; isRecord = false } ∷ []; kind = kind }
 
 -- what the contracts say of number, lengths and areas: `keyExit`, `shareExit`, `combineExit`, `searchEnding`, `examExit` and `blockExit` are these, part by
 -- part: `exit` of the same outcomes, and the search's own

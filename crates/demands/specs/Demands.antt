@@ -16,7 +16,7 @@ use Rattle.calls.specs.Outcome.{accepted}
 use Rattle.expander.specs.declared.Expander.{Expander}
 use Rattle.point.specs.PublicShare.{publicShareLength}
 use Rattle.query.specs.Query.{packs, IsQuery, prefixCount, prefixesOf, children}
-use Rattle.tree.specs.Search.{start, totals, heading}
+use Rattle.tree.specs.SearchRule.{start, totals, heading}
 use Rattle.tree.specs.Cut.{cut, cuts, times, Rearranged}
 use Rattle.search.specs.Search.{Lent, countedNumber, thresholdOf, total}
 use Rattle.honest.specs.Honest.{Accepted, recordRead, listRead, Honest, countedStrings}

@@ -12,7 +12,7 @@ use Rattle.expander.specs.declared.Expander.{Expander}
 use Rattle.expander.specs.declared.Expander.the-variants.{Aes, Classroom}
 use Rattle.point.specs.Correction.{Correction}
 use Rattle.point.specs.Keys.{keyCorrection}
-use Rattle.point.specs.Share.{bitOf, shareAt}
+use Rattle.point.specs.Evaluation.{bitOf, shareAt}
 use Rattle.point.specs.PublicShare.{publicShare}
 use Rattle.point.specs.Instance.{scheme}
 use Rattle.query.specs.Query.{OfLength}

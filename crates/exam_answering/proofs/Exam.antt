@@ -17,7 +17,7 @@ use Rattle.calls.proofs.Judged as judging
 use Rattle.expander.specs.Expander.{isExpander}
 use Rattle.expander.proofs.Chosen.{unnamed, unnamed-test}
 use Rattle.exam_text.specs.Sheet.{Sheet, expanderNumber, text, Within}
-use Rattle.exam_answering.specs.Answer.{answerText}
+use Rattle.exam_answering.specs.AnswerText.{answerText}
 use Rattle.exam_answering.specs.Exam.{SheetWith, examCauses, examOutcome}
 use Rattle.exam_text.proofs.ReaderExact.{read-printed, text-injective, SheetOrNone, sheet-or-none, none-read}
 

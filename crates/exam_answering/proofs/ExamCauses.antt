@@ -14,7 +14,7 @@ use Rattle.calls.proofs.Judged.{exit-equal}
 use Rattle.expander.specs.Expander.{isExpander}
 use Rattle.exam_text.specs.Sheet.{expanderNumber}
 use Rattle.exam_text.specs.Reader.{isSheet, sheetOf, readSheet}
-use Rattle.exam_answering.specs.Answer.{answerText}
+use Rattle.exam_answering.specs.AnswerText.{answerText}
 use Rattle.exam_lines.specs.Lines.{writtenIn}
 use Rattle.exam_answering.specs.Exam.{examOutcome, examExit}
 

@@ -17,7 +17,7 @@ use Rattle.calls.proofs.Decisions.{bounds}
 use Rattle.calls.proofs.Judged.{due-unique, judged-refused}
 use Rattle.expander.specs.Expander.{isExpander}
 use Rattle.exam_text.specs.Sheet.{Sheet, expanderNumber, text, Within}
-use Rattle.exam_answering.specs.Answer.{answerText}
+use Rattle.exam_answering.specs.AnswerText.{answerText}
 use Rattle.exam_answering.specs.Exam.{examCauses, examOutcome, answerSpace}
 use Rattle.exam_text.proofs.ReaderExact.{SheetOrNone, sheet-or-none}
 use Rattle.exam_answering.proofs.Longest.{answer-most}

@@ -10,14 +10,14 @@ use Rattle.bits.specs.Strings.{Bits, count}
 use Rattle.expander.specs.Expander.{isExpander}
 use Rattle.kept.specs.Kept.{reaches}
 use Rattle.query.specs.Query.{OfLength, packs}
-use Rattle.tree.specs.Search.{searchRecord, searchList}
+use Rattle.tree.specs.SearchRule.{searchRecord, searchList}
 use Rattle.search.specs.Search.{Lent, thresholdOf, searchNumber}
 use Rattle.search.proofs.Outcome.{Sound, accepted-clear}
 use Rattle.honest.specs.Honest.{Accepted, recordRead, listRead, Honest, countedStrings}
 use Rattle.honest.proofs.Counted.{few-strings, accepted-record, accepted-list}
 use Rattle.honest.proofs.Demand2.{honest-accepted}
 use Rattle.exam_text.specs.Sheet.{Sheet, strings}
-use Rattle.exam_answering.specs.Answer.{answerText}
+use Rattle.exam_answering.specs.AnswerText.{answerText}
 use Rattle.exam_text.proofs.Records.{Rounds}
 use Rattle.exam_answering.specs.Printing.{printed, roundLength}
 use Rattle.exam_answering.proofs.Space.{exam-record, exam-list}

@@ -22,11 +22,11 @@ use Rattle.exam_text.proofs.Placed.{Sound, stands-sound, linePlace, line-stands
 -- ---- a line
 
 -- what the key maker writes for a line
-abbrev pub keyOf : ℕ → ℕ → Line → List ℕ
-keyOf n expander l = keyOutcome n expander (pack (l .string)) (l .seed0) (l .seed1) (publicShareLength n) .written
+abbrev pub lineKey : ℕ → ℕ → Line → List ℕ
+lineKey n expander l = keyOutcome n expander (pack (l .string)) (l .seed0) (l .seed1) (publicShareLength n) .written
 
 -- For a sound line that is a whole public share.
-pub key-size : (n expander : ℕ) → 1 ≤ n → n ≤ 32 → isExpander expander ≡ true → (l : Line) → Sound n l → length (keyOf n expander l) ≡ publicShareLength n
+pub key-size : (n expander : ℕ) → 1 ≤ n → n ≤ 32 → isExpander expander ≡ true → (l : Line) → Sound n l → length (lineKey n expander l) ≡ publicShareLength n
 key-size n expander from to known l sound =
     let named = named-expander expander known in
     let honest = honest-report (sound .bits) (sound .sized0) (sound .sized1) in
@@ -35,7 +35,7 @@ key-size n expander from to known l sound =
 
 -- What the key maker writes for what was read is the key of the line.
 pub key-read : (n expander w : ℕ) (l : Line) (string seed0 seed1 : List ℕ) → n ≤ 32 → Sound n l → w ≡ packedLength n → string ≡ packIn 4 (l .string) → seed0 ≡ l .seed0
-    → seed1 ≡ l .seed1 → keyOutcome n expander (take w string) seed0 seed1 (publicShareLength n) .written ≡ keyOf n expander l
+    → seed1 ≡ l .seed1 → keyOutcome n expander (take w string) seed0 seed1 (publicShareLength n) .written ≡ lineKey n expander l
 key-read n expander w l string seed0 seed1 to sound size bits first second = rw (size, bits, packed-four n (l .string) (sound .bits) to, first, second)
 
 -- ---- the lines from a place on

@@ -21,7 +21,7 @@ use Rattle.honest.specs.Honest.{keyAt, Honest}
 use Rattle.honest.proofs.Making.{made-honest}
 use Rattle.exam_text.specs.Reader.{areLines}
 use Rattle.exam_text.proofs.LinesText.{lines-read}
-use Rattle.exam_answering.proofs.LineKeys.{keyOf, key-size, nthLine, stringsOf, strings-length, string-at, sound-at}
+use Rattle.exam_answering.proofs.LineKeys.{lineKey, key-size, nthLine, stringsOf, strings-length, string-at, sound-at}
 use Rattle.exam_answering.proofs.PiecesPut.{joined-same, put-next, put-read}
 
 -- Where the reports are written: both servers' root seeds, and the public shares.
@@ -51,7 +51,7 @@ room-less n i C old h room = record {
 pub record Written (n expander : ℕ) (text : List ℕ) (at i : ℕ) (old new : Areas) : Type 0 where
   pub seeds0 : new .seeds0 ≡ putAt (old .seeds0) 0 (joined i (λ j. nthLine text at n j .seed0))
   pub seeds1 : new .seeds1 ≡ putAt (old .seeds1) 0 (joined i (λ j. nthLine text at n j .seed1))
-  pub shares : new .shares ≡ putAt (old .shares) 0 (joined i (λ j. keyOf n expander (nthLine text at n j)))
+  pub shares : new .shares ≡ putAt (old .shares) 0 (joined i (λ j. lineKey n expander (nthLine text at n j)))
 
 pub written-none : (n expander : ℕ) (text : List ℕ) (at : ℕ) (old : Areas) → Written n expander text at 0 old old
 unfolding joined
@@ -80,7 +80,7 @@ module _ (n expander : ℕ) (from : 1 ≤ n) (to : n ≤ 32) (known : isExpander
   second j = nthLine text at n j .seed1
 
   abbrev key : ℕ → List ℕ
-  key j = keyOf n expander (nthLine text at n j)
+  key j = lineKey n expander (nthLine text at n j)
 
   first-size : (j : ℕ) → j < C → length (first j) ≡ 16
   first-size j l = sound-at text at n C j l to laid .sized0 .size

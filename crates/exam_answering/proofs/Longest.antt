@@ -9,7 +9,7 @@ use Rattle.places.specs.Lists.{select}
 use Rattle.bits.specs.Strings.{Bits, count}
 use Rattle.kept.specs.Kept.{reaches}
 use Rattle.query.specs.Query.{OfLength, children}
-use Rattle.tree.specs.Search.{start, searchList}
+use Rattle.tree.specs.SearchRule.{start, searchList}
 use Rattle.places.proofs.Lists.{all-map}
 use Rattle.query.proofs.Children.{children-length, children-longer}
 use Rattle.tree.proofs.Kept.{Survives, list-length}
@@ -17,7 +17,7 @@ use Rattle.tree.proofs.Totals.{count-le, heavy, Stands, stands-start, stands-ke
 use Rattle.exam_text.specs.Characters.{space, newline, binary, decimal}
 use Rattle.exam_text.specs.Sheet.{Sheet, strings, Within}
 use Rattle.exam_lines.specs.Lines.{prefixLine, heavyLine}
-use Rattle.exam_answering.specs.Answer.{heavyLines, prefixLines, queriedFrom, queried, answerText}
+use Rattle.exam_answering.specs.AnswerText.{heavyLines, prefixLines, queriedFrom, queried, answerText}
 use Rattle.exam_answering.specs.Exam.{answerSpace}
 use Rattle.exam_text.proofs.LineFields.{binary-length}
 use Rattle.exam_answering.proofs.Printed.{lines-append}

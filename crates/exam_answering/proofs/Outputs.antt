@@ -15,7 +15,7 @@ use Rattle.calls.proofs.Judged.{space-decided, due, due-unique, judged-refused,
 use Rattle.calls.proofs.Judged as judging
 use Rattle.exam_text.specs.Characters.{newline, decimal}
 use Rattle.exam_text.specs.Sheet.{Sheet, text, Within}
-use Rattle.exam_answering.specs.Answer.{answerText}
+use Rattle.exam_answering.specs.AnswerText.{answerText}
 use Rattle.exam_lines.specs.Lines.{writtenIn, refusedText, refusedOutcome}
 use Rattle.exam_answering.specs.Exam.{examCauses, examOutcome, answerSpace, outputFor, output, respondOutcome}
 use Rattle.exam_text.proofs.TextLengths.{decimal-length}

@@ -18,7 +18,7 @@ use Rattle.numbers.proofs.Endian.{little-length, fromLittle-little}
 use Rattle.bits.proofs.Packed.{pack-length, unpack-pack}
 use Rattle.kept.specs.Kept.{reaches}
 use Rattle.query.specs.Query.{OfLength, packs, query, limit, children}
-use Rattle.tree.specs.Search.{start, totals, fitsFrom, recordFrom, heading, isKept, searchRecord, searchList, searchFits}
+use Rattle.tree.specs.SearchRule.{start, totals, fitsFrom, recordFrom, heading, isKept, searchRecord, searchList, searchFits}
 use Rattle.places.proofs.Lists.{and-left, and-right}
 use Rattle.query.proofs.Children.{children-longer, kept-longer}
 use Rattle.tree.proofs.Steps.{record-nothing}
@@ -27,7 +27,7 @@ use Rattle.tree.proofs.Kept.{list-length}
 use Rattle.tree.proofs.Totals.{count-le, honest-fits}
 use Rattle.exam_text.specs.Sheet.{Sheet, strings}
 use Rattle.exam_lines.specs.Lines.{prefixLine, heavyLine}
-use Rattle.exam_answering.specs.Answer.{heavyLines, prefixLines, queriedFrom, answerText}
+use Rattle.exam_answering.specs.AnswerText.{heavyLines, prefixLines, queriedFrom, answerText}
 use Rattle.exam_text.proofs.Records.{Rounds}
 use Rattle.exam_answering.specs.Printing.{entryLines, recordLines, listLines, printed, roundLength}
 use Rattle.exam_answering.proofs.Rounds.{round-prefix-length, round-count, round-prefixes, round-totals, round-rest, round-inside, round-long}

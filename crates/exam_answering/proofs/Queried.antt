@@ -12,14 +12,14 @@ use lib.Dec.{leb}
 use Rattle.places.specs.Lists.{_∈_, All, select}
 use Rattle.bits.specs.Strings.{Bits, _▹_, isPrefix, count}
 use Rattle.kept.specs.Kept.{reaches}
-use Rattle.tree.specs.Search.{start, keptFrom, isKept, searchList}
+use Rattle.tree.specs.SearchRule.{start, keptFrom, isKept, searchList}
 use Rattle.query.specs.Query.{children}
 use Rattle.tree.specs.Cut.{Heavy, prefixes}
 use Rattle.places.proofs.Lists.{and-right, all-mem}
 use Rattle.tree.proofs.Prefixes.{prefixes-exact}
 use Rattle.query.proofs.Children.{mem-children, all-children}
 use Rattle.tree.proofs.Kept.{Survives, open-prefixes, list-survives, list-exact}
-use Rattle.exam_answering.specs.Answer.{queriedFrom, queried}
+use Rattle.exam_answering.specs.AnswerText.{queriedFrom, queried}
 
 -- ---- the prefixes of a string with one bit more
 

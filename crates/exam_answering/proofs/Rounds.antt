@@ -11,7 +11,7 @@ use Rattle.places.specs.Places.{window}
 use Rattle.numbers.proofs.Endian.{big-length}
 use Rattle.places.proofs.Places.{window-inside}
 use Rattle.query.specs.Query.{OfLength, packs, query, prefixLength, prefixCount}
-use Rattle.tree.specs.Search.{totals}
+use Rattle.tree.specs.SearchRule.{totals}
 use Rattle.query.proofs.Queries.{query-length, read-length, read-count}
 use Rattle.tree.proofs.Lengths.{totals-length}
 use Rattle.exam_answering.specs.Printing.{queryLength, roundLength}

@@ -21,7 +21,7 @@ use Rattle.honest.proofs.Pieces.{all-at}
 use Rattle.honest.proofs.Demand2.{honest-made}
 use Rattle.exam_text.specs.Sheet.{Line, Sheet, strings, expanderNumber, text, Within}
 use Rattle.exam_text.specs.Reader.{noLine}
-use Rattle.exam_answering.specs.Answer.{answerText}
+use Rattle.exam_answering.specs.AnswerText.{answerText}
 use Rattle.exam_answering.specs.Printing.{printed}
 use Rattle.exam_answering.specs.Exam.{examOutcome}
 use Rattle.exam_answering.proofs.HonestAnswer.{exam-accepted, answer-printed}

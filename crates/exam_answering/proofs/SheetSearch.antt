@@ -12,7 +12,7 @@ use Rattle.search.specs.Search.{Lent}
 use Rattle.honest.specs.Honest.{Accepted, recordRead, listRead, Honest}
 use Rattle.exam_text.specs.Sheet.{Line, strings}
 use Rattle.exam_text.specs.Reader.{areLines, afterFirstLine, isSheet, sheetOf}
-use Rattle.exam_answering.specs.Answer.{answerText}
+use Rattle.exam_answering.specs.AnswerText.{answerText}
 use Rattle.exam_text.proofs.Records.{Rounds}
 use Rattle.exam_answering.specs.Printing.{printed, roundLength}
 use Rattle.exam_text.proofs.ReaderExact.{sheet-within}

@@ -14,7 +14,7 @@ use Rattle.expander.specs.Expander.{isExpander}
 use Rattle.exam_text.specs.Sheet.{Sheet, expanderNumber, text, Within}
 use Rattle.exam_text.specs.Reader.{readSheet}
 use Rattle.exam_lines.specs.Lines.{refusedText, writtenIn}
-use Rattle.exam_answering.specs.Answer.{answerText}
+use Rattle.exam_answering.specs.AnswerText.{answerText}
 
 -- ---- `answer`
 
@@ -54,7 +54,7 @@ examOutcome bytes room = judged (examCauses bytes room) (answerRead (readSheet b
 
 -- what the call returns, and the space that it is lent, at exit
 abbrev pub examExit : List ℕ → List ℕ → Exit
-examExit bytes space = exit (examOutcome bytes (length space)) space
+examExit bytes area = exit (examOutcome bytes (length area)) area
 
 -- space that is enough for every answer
 abbrev pub answerSpace : ℕ

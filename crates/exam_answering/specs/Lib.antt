@@ -1,3 +1,3 @@
-pub mod Answer
+pub mod AnswerText
 pub mod Printing
 pub mod Exam

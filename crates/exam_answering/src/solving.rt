@@ -14,7 +14,7 @@ ghost use Rattle.expander.specs.Expander.{isExpander};
 ghost use Rattle.search.specs.Search.{lent};
 ghost use Rattle.honest.specs.Honest.{Accepted, recordRead, listRead};
 ghost use Rattle.exam_text.specs.Reader.{isSheet, sheetOf, afterFirstLine};
-ghost use Rattle.exam_answering.specs.Answer.{answerText};
+ghost use Rattle.exam_answering.specs.AnswerText.{answerText};
 ghost use Rattle.exam_text.proofs.Records.{Rounds};
 ghost use Rattle.exam_answering.specs.Printing.{printed, roundLength};
 

@@ -20,11 +20,11 @@ use Rattle.expander.specs.Expander.{isExpander, classroomBlock, xorBytes}
 use Rattle.point.specs.Node.{controlBit, cleared, child, final, payloadOf}
 use Rattle.point.specs.Correction.{corrected, correctedChild}
 use Rattle.point.specs.Keys.{seedCorrection, leftCorrection, rightCorrection, keptChild, payloadCorrection, correction, keyNode, keyCorrection}
-use Rattle.point.specs.Share.{descend, correctedPayload, shareBelow, node, share}
+use Rattle.point.specs.Evaluation.{descend, correctedPayload, shareBelow, node, share}
 use Rattle.point.specs.PublicShare.{joined, lowestFirst, levelBit, controlByte, levelBytes, publicShare, binaryDigit, readCorrection, every, payloadsBelow, spareBitsZero}
 use Rattle.point.specs.Instance.{fieldScheme}
 use Rattle.query.specs.Query.{packs, query, parts, sparesZero, isAscending, isQuery}
-use Rattle.tree.specs.Search.{heading, searchRecord, searchList}
+use Rattle.tree.specs.SearchRule.{heading, searchRecord, searchList}
 use Rattle.tree.specs.Cut.{honestRecord, honestList, cut}
 use Rattle.keymaker.specs.Key.{keyBytes, keyOutcome}
 use Rattle.report_sums.specs.Reports.{sumWhere, lentShare, serverSum}
@@ -32,10 +32,10 @@ use Rattle.idpf.specs.Share.{shareBytes, shareOutcome}
 use Rattle.exam_text.specs.Characters.{binary, decimalIn}
 use Rattle.exam_text.specs.Sheet.{Line, Sheet, strings, expanderNumber, text}
 use Rattle.exam_answering.specs.Exam.{examOutcome, answerSpace, outputFor, output}
-use Rattle.exam_answering.specs.Answer.{heavyLines, prefixLines, queriedFrom, answerText}
+use Rattle.exam_answering.specs.AnswerText.{heavyLines, prefixLines, queriedFrom, answerText}
 use Rattle.exam_answering.proofs.Exam.{sheet-outcome}
 use Rattle.exam_answering.proofs.SameAnswer.{same-answer}
-use Rattle.examples.specs.Sheet.{Holds, searchOf, numberWith, outputOf, table, s01, s11}
+use Rattle.examples.specs.Marked.{Holds, searchOf, numberWith, outputOf, table, s01, s11}
 use Rattle.honest.proofs.Counted.{accepted-record, accepted-list}
 use Rattle.honest.proofs.Accepting.{listed-number}
 

@@ -10,9 +10,9 @@ use Rattle.expander.specs.Expander.{choiceOf}
 use Rattle.expander.specs.declared.Expander.{Expander}
 use Rattle.expander.specs.declared.Choice.the-variants.{Known}
 use Rattle.group.specs.Modular.{p}
-use Rattle.point.specs.Share.{bitOf}
+use Rattle.point.specs.Evaluation.{bitOf}
 use Rattle.query.specs.Query.{packs}
-use Rattle.tree.specs.Search.{searchList}
+use Rattle.tree.specs.SearchRule.{searchList}
 use Rattle.tree.specs.Cut.{honestRecord, honestList, honestFits}
 use Rattle.report_sums.specs.Reports.{allCount, serverSum}
 use Rattle.search.specs.Search.{Lent, reports, total, recordBytes, listBytes, queriesFit, reachesOf}

@@ -18,13 +18,13 @@ use Rattle.expander.specs.declared.Choice.the-variants.{Known}
 use Rattle.group.specs.Modular.{modulus, field}
 use Rattle.point.specs.Correction.{Correction}
 use Rattle.point.specs.Keys.{keyCorrection}
-use Rattle.point.specs.Share.{bitOf, shareAt}
+use Rattle.point.specs.Evaluation.{bitOf, shareAt}
 use Rattle.point.specs.PublicShare.{joined, publicShare, publicShareLength}
 use Rattle.point.specs.Totals.{reportCorrection, reportShare, reportPublicShare}
 use Rattle.point.specs.Instance.{scheme}
 use Rattle.point.proofs.Instance.{scheme-correct}
 use Rattle.query.specs.Query.{OfLength, packs, query as queryOf, IsQuery, prefixLength, prefixCount, prefixesOf, children}
-use Rattle.tree.specs.Search.{totals, searchList, Ended}
+use Rattle.tree.specs.SearchRule.{totals, searchList, Ended}
 use Rattle.tree.specs.Cut.{Heavy, honestList, times}
 use Rattle.tree.specs.Space.{recordSpace, listSpace}
 use Rattle.places.proofs.Lists.{all-map}

@@ -9,7 +9,7 @@ use Rattle.bits.specs.Strings.{Bits}
 use Rattle.kept.specs.Kept.{reaches}
 use Rattle.point.specs.PublicShare.{joined}
 use Rattle.query.specs.Query.{OfLength, packs, query, children}
-use Rattle.tree.specs.Search.{start, totals, level, heading, searchRecord, searchList}
+use Rattle.tree.specs.SearchRule.{start, totals, level, heading, searchRecord, searchList}
 use Rattle.tree.specs.Cut.{honestRecord, cuts, Rearranged}
 use Rattle.tree.proofs.Demands.{records-tell-cuts, records-tell-lists}
 use Rattle.tree.proofs.Steps as steps

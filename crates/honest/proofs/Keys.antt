@@ -20,7 +20,7 @@ use Rattle.expander.specs.declared.Choice.the-variants.{Known}
 use Rattle.expander.proofs.Chosen.{known}
 use Rattle.group.specs.Modular.{p}
 use Rattle.point.specs.Keys.{keyCorrection}
-use Rattle.point.specs.Share.{bitOf}
+use Rattle.point.specs.Evaluation.{bitOf}
 use Rattle.point.specs.PublicShare.{publicShare, publicShareLength, payloadsBelow, spareBitsZero}
 use Rattle.point.specs.Totals.{Report, reportCorrection, reportPublicShare}
 use Rattle.point.specs.Instance.{scheme}

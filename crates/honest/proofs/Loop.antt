@@ -14,11 +14,11 @@ use Rattle.calls.specs.Outcome.{accepted}
 use Rattle.calls.proofs.Decisions.{either, either-test}
 use Rattle.calls.proofs.Judged.{number-due, judged-due, none, next as also}
 use Rattle.query.specs.Query.{OfLength, limit, IsQuery, children}
-use Rattle.tree.specs.Search.{start, fitsFrom, isKept, heading, searchRecord, searchList, searchFits}
+use Rattle.tree.specs.SearchRule.{start, fitsFrom, isKept, heading, searchRecord, searchList, searchFits}
 use Rattle.tree.proofs.Kept.{list-length, list-ascending}
 use Rattle.tree.proofs.Steps.{kept-last}
 use Rattle.combine.proofs.CombineDue.{passes as passes-limit, passes-test as passes-limit-test}
-use Rattle.combine.specs.Answer.{list, further, answer}
+use Rattle.combine.specs.Answer.{list, further, answerAt}
 use Rattle.combine.specs.Combine.{PassesLimit, passesLimit, combineCauses, combineOutcome}
 use Rattle.search.specs.Search.{Lent, countedNumber, thresholdOf, reachesOf, total, recordBytes, listBytes, queriesFit}
 use Rattle.search.proofs.Outcome.{Sound, accepted-clear, not-before-11}
@@ -35,7 +35,7 @@ passing s (inl h) = accepted-clear s h .sound
 passing s (inr h) = not-before-11 s h
 
 -- an answer whose prefixes have few children passes no limit
-answer-within : (n k : ℕ) (ps : List Bits) → (k ≢ n → length (children ps) ≤ limit) → PassesLimit (answer n k ps) → ⊥
+answer-within : (n k : ℕ) (ps : List Bits) → (k ≢ n → length (children ps) ≤ limit) → PassesLimit (answerAt n k ps) → ⊥
 answer-within n k ps few = go (eqb k n) refl ps few
   where
     go : (b : Bool) → eqb k n ≡ b → (ps : List Bits) → (k ≢ n → length (children ps) ≤ limit) → PassesLimit (cond b (list ps) (further ps)) → ⊥
@@ -68,11 +68,11 @@ module _ (s : Lent) (passes : Passes s) where
     level-totals = rounds.round-totals s (passing s passes) k short (keptAt s k) some few sized sorted
 
     -- Combining's answer is the one for the prefixes that the search keeps at the next length.
-    pub level-answer : answerFor s (queryAt s k) ≡ answer (s .n) (suc k) (keptAt s (suc k))
+    pub level-answer : answerFor s (queryAt s k) ≡ answerAt (s .n) (suc k) (keptAt s (suc k))
     unfolding searchList
     level-answer =
         rounds.round-answer s (passing s passes) k short (keptAt s k) some few sized sorted
-        ∙ ap (answer (s .n) (suc k)) (sym (kept-last (isKept (reachesOf s) (total s)) k start))
+        ∙ ap (answerAt (s .n) (suc k)) (sym (kept-last (isKept (reachesOf s) (total s)) k start))
 
     -- Of combining's causes only 11 is left: its number is 11 where its answer does not fit the room or a next query passes the limit, and else 0.
     pub level-number : (room : ℕ)

@@ -7,7 +7,7 @@ use lib.ListN.{length}
 use Rattle.bits.specs.Strings.{Bits}
 use Rattle.group.specs.Modular.{p}
 use Rattle.expander.specs.declared.Expander.{Expander}
-use Rattle.point.specs.Share.{bitOf}
+use Rattle.point.specs.Evaluation.{bitOf}
 use Rattle.point.specs.Totals.{Report, Made, rootSeed, reportPublicShare}
 use Rattle.point.specs.Instance.{scheme}
 use Rattle.report_sums.specs.Reports.{allCount, serverSum}

@@ -10,25 +10,19 @@ use lib.ListN.{length}
 use lib.Dec.{leb}
 use Rattle.places.specs.Lists.{select}
 use Rattle.bits.specs.Strings.{Bits, Ascending}
-use Rattle.numbers.specs.Numbers.{little}
 use Rattle.calls.specs.Outcome.{Outcome}
 use Rattle.calls.proofs.Decisions.{neither-test}
 use Rattle.query.specs.Query.{OfLength, packs, query, limit, children}
-use Rattle.tree.specs.Search.{totals, level, keptFrom, fitsFrom, recordFrom, isKept}
+use Rattle.tree.specs.SearchRule.{totals, level, keptFrom, fitsFrom, recordFrom, isKept}
 use Rattle.query.proofs.Children.{children-length, children-ascending, select-ascending, kept-longer}
 use Rattle.places.proofs.Lists.{and-left, and-right}
 use Rattle.tree.proofs.Steps.{kept-nothing, record-nothing}
-use Rattle.combine.specs.Answer.{Answer, next, list, ended, answer, answerBytes, kind}
+use Rattle.combine.specs.Answer.{Answer, next, list, ended, answerAt, answerBytes, kind}
 use Rattle.combine.specs.Combine.{passesLimit, combineKind, kindWith}
 use Rattle.search.specs.Search.{Lent, total, reachesOf}
 use Rattle.search.proofs.Outcome.{Sound}
-use Rattle.honest.specs.Loop.{inBytes, Played, round, over, follow, answerFor, spaceFor, combineIn, kindIn, played}
+use Rattle.honest.specs.Loop.{Played, round, over, follow, answerFor, spaceFor, combineIn, kindIn, played}
 use Rattle.honest.proofs.Round.{round-length, round-totals, round-answer, tooLarge, round-number, round-succeeds}
-
--- totals of prefixes as bytes
-totals-bytes : (T : Bits → ℕ) (qs : List Bits) → inBytes (map T qs) ≡ totals T qs
-totals-bytes T [] = refl
-totals-bytes T (q ∷ qs) = ap (λ (bytes : List ℕ). little 8 (T q) ++ bytes) (totals-bytes T qs)
 
 abbrev leave : List ℕ → List ℕ → Played
 leave bytes ss = record { recorded = bytes; listed = ss }
@@ -39,7 +33,7 @@ module _ (s : Lent) (sound : Sound s) where
 
   -- One round: some prefixes of k bits are kept, and their children are asked; the answer passes no limit.
   module _ (k : ℕ) (short : k < s .n) (ps : List Bits) (some-kept : 1 ≤ length ps) (few : length (children ps) ≤ limit)
-      (sized : OfLength k ps) (sorted : Ascending ps) (a : Answer) (is : answer (s .n) (suc k) (select keeps (children ps)) ≡ a) (within : passesLimit a ≡ false) where
+      (sized : OfLength k ps) (sorted : Ascending ps) (a : Answer) (is : answerAt (s .n) (suc k) (select keeps (children ps)) ≡ a) (within : passesLimit a ≡ false) where
     abbrev q : List ℕ
     q = query k (children ps)
 
@@ -78,9 +72,8 @@ module _ (s : Lent) (sound : Sound s) where
   round-ruled m k ps h =
       let qs = children ps in
       let after = recordFrom keeps (total s) m (suc k) (select keeps qs) in
-      let e : query k qs ++ (inBytes (map (total s) qs) ++ after) ≡ level (total s) k qs ++ after =
-      ap (λ (bytes : List ℕ). query k qs ++ (bytes ++ after)) (totals-bytes (total s) qs)
-      ∙ sym (append-assoc (query k qs) (totals (total s) qs) after)
+      let e : query k qs ++ (totals (total s) qs ++ after) ≡ level (total s) k qs ++ after =
+      sym (append-assoc (query k qs) (totals (total s) qs) after)
       ∙ ap (λ (bytes : List ℕ). bytes ++ after) (level-asked k qs (omega (arith, children-length ps))) in
       ap (λ (bytes : List ℕ). leave bytes (packs (keptFrom keeps m (select keeps qs)))) e
 

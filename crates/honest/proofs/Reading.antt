@@ -10,7 +10,7 @@ use lib.Seq.{take-append-seam}
 use Rattle.places.specs.Places.{overlay}
 use Rattle.bits.specs.Strings.{Bits}
 use Rattle.point.specs.PublicShare.{joined}
-use Rattle.tree.specs.Search.{start, level, keptFrom, recordFrom, isKept, searchList}
+use Rattle.tree.specs.SearchRule.{start, level, keptFrom, recordFrom, isKept, searchList}
 use Rattle.query.specs.Query.{children}
 use Rattle.tree.proofs.Steps.{record-last}
 use Rattle.search.specs.Search.{Lent, recordBytes, listBytes, recordLength, listLength, recordAfter, listAfter}
@@ -42,10 +42,10 @@ module _ (s : Lent) (ok : Accepted s) where
   list-whole = (ap length list-read ∙ sym list-returned, omega (arith, list-returned, accepted-clear s ok .list-fits))
 
 -- What n levels add to a record are the levels, one after the other.
-pub levels-joined : (reaches : ℕ → Bool) (T : Bits → ℕ) (n : ℕ)
-    → recordFrom (isKept reaches T) T n 0 start ≡ joined n (λ k. level T k (children (searchList reaches T k)))
+pub levels-joined : (enough : ℕ → Bool) (T : Bits → ℕ) (n : ℕ)
+    → recordFrom (isKept enough T) T n 0 start ≡ joined n (λ k. level T k (children (searchList enough T k)))
 unfolding joined searchList
-levels-joined reaches T zero = refl
-levels-joined reaches T (suc n) =
-    record-last (isKept reaches T) T n 0 start
-    ∙ ap₂ (λ (r : List ℕ) (k : ℕ). r ++ level T k (children (keptFrom (isKept reaches T) n start))) (levels-joined reaches T n) (zero-add n)
+levels-joined enough T zero = refl
+levels-joined enough T (suc n) =
+    record-last (isKept enough T) T n 0 start
+    ∙ ap₂ (λ (r : List ℕ) (k : ℕ). r ++ level T k (children (keptFrom (isKept enough T) n start))) (levels-joined enough T n) (zero-add n)

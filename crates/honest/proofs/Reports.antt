@@ -15,7 +15,7 @@ use Rattle.expander.specs.Expander.{choiceOf}
 use Rattle.expander.specs.declared.Expander.{Expander}
 use Rattle.expander.specs.declared.Choice.the-variants.{Known}
 use Rattle.group.specs.Modular.{field}
-use Rattle.point.specs.Share.{bitOf, share}
+use Rattle.point.specs.Evaluation.{bitOf, share}
 use Rattle.point.specs.PublicShare.{publicShareLength, readCorrection}
 use Rattle.point.specs.Totals.{Report, rootSeed, strings, reportShare, reportPublicShare}
 use Rattle.point.specs.Instance.{scheme}

@@ -28,7 +28,7 @@ use Rattle.keymaker.proofs.KeyCauses.{ready}
 use Rattle.keymaker.proofs.KeyTheorems.{key-passes}
 use Rattle.idpf.proofs.ShareOutcome as outcome
 use Rattle.kept.specs.Kept.{reaches}
-use Rattle.combine.specs.Answer.{Answer, next, list, ended, further, answer, answerBytes, kind}
+use Rattle.combine.specs.Answer.{Answer, next, list, ended, further, answerAt, answerBytes, kind}
 use Rattle.combine.specs.Combine.{keptPrefixes, combineAnswer, combineBytes, passesLimit, combineCauses, combineOutcome, kindWith, combineKind}
 use Rattle.combine.proofs.Ready.{clear-ready, kept-long}
 
@@ -57,7 +57,7 @@ Sized n k (next qs) = OfLength (suc k) qs
 Sized n k (list ss) = OfLength n ss
 Sized n k ended = Unit {0}
 
-answer-sized : (n k : ℕ) (ps : List Bits) → OfLength k ps → Sized n k (answer n k ps)
+answer-sized : (n k : ℕ) (ps : List Bits) → OfLength k ps → Sized n k (answerAt n k ps)
 answer-sized n k ps a = go (eqb k n) refl ps a
   where
     go : (b : Bool) → eqb k n ≡ b → (ps : List Bits) → OfLength k ps → Sized n k (cond b (list ps) (further ps))

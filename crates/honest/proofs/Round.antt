@@ -16,17 +16,18 @@ use Rattle.calls.proofs.Decisions.{neither-test, in-bounds}
 use Rattle.calls.proofs.Judged.{judged-accepted, _&_}
 use Rattle.expander.specs.declared.Choice.{Choice}
 use Rattle.group.specs.Modular.{p, field}
-use Rattle.point.specs.Share.{bitOf}
+use Rattle.point.specs.Evaluation.{bitOf}
 use Rattle.kept.specs.Kept.{kept}
 use Rattle.kept.proofs.Kept.{kept-select}
 use Rattle.query.specs.Query.{OfLength, query, limit, IsQuery, isQuery, prefixLength, prefixCount, prefixesOf, children}
-use Rattle.tree.specs.Search.{totals, isKept}
+use Rattle.numbers.specs.Numbers.{inBytes}
+use Rattle.tree.specs.SearchRule.{isKept}
 use Rattle.tree.proofs.Asked.{next-query}
 use Rattle.query.proofs.Children.{children-longer}
 use Rattle.tree.proofs.Lengths.{totals-length}
 use Rattle.query.proofs.Queries.{query-passes, read-length, read-count, read-prefixes}
 use Rattle.report_sums.specs.Reports.{allCount, serverSum}
-use Rattle.combine.specs.Answer.{numbers, added, answer, answerBytes}
+use Rattle.combine.specs.Answer.{numbers, added, answerAt, answerBytes}
 use Rattle.combine.specs.Combine.{wrongShares, allBelow, keptPrefixes, passesLimit, combineCauses, combineOutcome}
 use Rattle.combine.proofs.ShareTotals.{numbers-totals, added-map}
 use Rattle.search.specs.Search.{Lent, total, totalUnder, reachesOf}
@@ -57,7 +58,7 @@ module _ (s : Lent) (sound : Sound s) where
   sums-total = ap (λ (c : Choice). totalUnder c s) (sym (sound .named))
 
   -- Where the bytes pass as a query, both servers succeed and write their sums.
-  share-succeeds : (b : Bool) (q : List ℕ) → isQuery (s .n) q ≡ true → shareOf s b q ≡ accepted (totals (sum b) (prefixesOf q))
+  share-succeeds : (b : Bool) (q : List ℕ) → isQuery (s .n) q ≡ true → shareOf s b q ≡ accepted (inBytes (map (sum b) (prefixesOf q)))
   share-succeeds false q asks =
       whole-share (s .n) (s .expander) (sound .expander) (sound .named) (sound .some-bits) (sound .not-longer) (s .seeds0) (s .shares0) _ (sound .lent0) (sound .few)
       false q asks (8 * prefixCount q) (omega arith)
@@ -87,10 +88,10 @@ module _ (s : Lent) (sound : Sound s) where
     counted = read-count k (children ps) (omega arith)
 
     -- Each server succeeds and writes its sum at each prefix.
-    pub round-share : (b : Bool) → shareOf s b q ≡ accepted (totals (sum b) (children ps))
-    round-share b = share-succeeds b q passes ∙ ap (λ (qs : List Bits). accepted (totals (sum b) qs)) read
+    pub round-share : (b : Bool) → shareOf s b q ≡ accepted (inBytes (map (sum b) (children ps)))
+    round-share b = share-succeeds b q passes ∙ ap (λ (qs : List Bits). accepted (inBytes (map (sum b) qs))) read
 
-    share-is : (b : Bool) → shareFor s b q ≡ totals (sum b) (children ps)
+    share-is : (b : Bool) → shareFor s b q ≡ inBytes (map (sum b) (children ps))
     share-is b = ap (λ o. o .written) (round-share b)
 
     numbers-are : (b : Bool) → numbers (shareFor s b q) ≡ map (sum b) (children ps)
@@ -111,8 +112,8 @@ module _ (s : Lent) (sound : Sound s) where
     round-kept = ap₂ (kept (reachesOf s)) read round-totals ∙ kept-select (reachesOf s) (total s) (children ps)
 
     -- So its answer is the one due to those.
-    pub round-answer : answerFor s q ≡ answer (s .n) (suc k) (select (isKept (reachesOf s) (total s)) (children ps))
-    round-answer = ap₂ (answer (s .n)) round-length round-kept
+    pub round-answer : answerFor s q ≡ answerAt (s .n) (suc k) (select (isKept (reachesOf s) (total s)) (children ps))
+    round-answer = ap₂ (answerAt (s .n)) round-length round-kept
 
     right-shares : wrongShares (s .n) q (shareFor s false q) (shareFor s true q) ≡ false
     right-shares =

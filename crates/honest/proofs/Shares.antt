@@ -1,7 +1,7 @@
 -- A server's outcome for honest reports: no cause applies. Assumes nothing.
 use mathlib.Core.Path.{_≡_, sym, ap, _∙_}
 use mathlib.Core.Bool.{Bool, true, false, not, _&&_}
-use mathlib.Core.List.{List, []}
+use mathlib.Core.List.{List, [], map}
 use Prim.Native.Nat.{ℕ, _+_, _*_, _/_, _%_, _≤_, _<_}
 use native.Mathlib.Nat.{mul-mod-right}
 use native.Mathlib.Omega.{arith}
@@ -23,13 +23,13 @@ use Rattle.expander.specs.declared.Choice.{Choice}
 use Rattle.expander.specs.declared.Choice.the-variants.{Known}
 use Rattle.expander.proofs.Chosen.{known}
 use Rattle.group.specs.Modular.{p}
-use Rattle.point.specs.Share.{bitOf}
+use Rattle.point.specs.Evaluation.{bitOf}
 use Rattle.point.specs.PublicShare.{publicShareLength, payloadsBelow, spareBitsZero}
 use Rattle.point.specs.Totals.{Report, reportPublicShare}
 use Rattle.point.specs.Instance.{scheme}
 use Rattle.point.proofs.Joined.{every-true}
 use Rattle.query.specs.Query.{limit, prefixLength, prefixCount, packedPrefixes, prefixesOf, sparesZero, isAscending, isQuery}
-use Rattle.tree.specs.Search.{totals}
+use Rattle.numbers.specs.Numbers.{inBytes}
 use Rattle.places.proofs.Lists.{and-left, and-right, all-map}
 use Rattle.query.proofs.Queries.{parts-length, prefix-at}
 use Rattle.report_sums.specs.Reports.{reportCount, publicShareAt, allCount, serverSum}
@@ -92,7 +92,7 @@ module _ (e : Expander) (number : ℕ) (named : choiceOf number ≡ Known e) (n 
 
   -- For a query and room for 8 bytes a prefix, server b succeeds and writes its sum at each prefix.
   share-accepted : (b : Bool) (query : List ℕ) → isQuery n query ≡ true → (room : ℕ) → 8 * prefixCount query ≤ room
-      → shareOutcome n number b (lentSeeds b rs) (lentShares e n rs) query room ≡ accepted (totals (sumAt e n rs b) (prefixesOf query))
+      → shareOutcome n number b (lentSeeds b rs) (lentShares e n rs) query room ≡ accepted (inBytes (map (sumAt e n rs b) (prefixesOf query)))
   unfolding shareOutcome shareBytes
   share-accepted b query asks room fits =
       let reports : length (lentSeeds b rs) / 16 ≤ mostReports = omega (arith, seeds-number e n from rs honest b) in
@@ -104,5 +104,5 @@ module _ (e : Expander) (number : ℕ) (named : choiceOf number ≡ Known e) (n 
   -- So it does where it is lent what is equal.
   pub share-lent : (b : Bool) (seeds shares : List ℕ) → seeds ≡ lentSeeds b rs → shares ≡ lentShares e n rs
       → (query : List ℕ) → isQuery n query ≡ true → (room : ℕ) → 8 * prefixCount query ≤ room
-      → shareOutcome n number b seeds shares query room ≡ accepted (totals (λ (q : Bits). serverSum e n b seeds shares allCount (bitOf q) (length q)) (prefixesOf query))
+      → shareOutcome n number b seeds shares query room ≡ accepted (inBytes (map (λ (q : Bits). serverSum e n b seeds shares allCount (bitOf q) (length q)) (prefixesOf query)))
   share-lent b seeds shares these those query asks room fits = rw (these, those) (share-accepted b query asks room fits)

@@ -18,11 +18,11 @@ use Rattle.expander.specs.declared.Choice.{Choice}
 use Rattle.expander.specs.declared.Choice.the-variants.{Known, Unknown}
 use Rattle.expander.proofs.Chosen.{known}
 use Rattle.group.specs.Modular.{p, field}
-use Rattle.point.specs.Share.{bitOf}
+use Rattle.point.specs.Evaluation.{bitOf}
 use Rattle.point.specs.PublicShare.{publicShareLength}
 use Rattle.point.proofs.Joined.{every-true}
 use Rattle.query.specs.Query.{isQuery, prefixCount, prefixesOf}
-use Rattle.tree.specs.Search.{totals}
+use Rattle.tree.specs.SearchRule.{totals}
 use Rattle.report_sums.specs.Reports.{reportCount, allCount, sumWhere, serverSum}
 use Rattle.report_sums.specs.Checks.{wrongLengths, payloadTooLarge, spareBitsSet}
 use Rattle.idpf.specs.Share.{shareCauses, shareBytes, shareOutcome}

@@ -11,9 +11,9 @@ use Rattle.bits.specs.Strings.{Bits, count}
 use Rattle.group.specs.Modular.{p, field}
 use Rattle.group.proofs.Modular.{field-laws}
 use Rattle.expander.specs.declared.Expander.{Expander}
-use Rattle.point.specs.Share.{bitOf, share}
+use Rattle.point.specs.Evaluation.{bitOf, share}
 use Rattle.point.specs.PublicShare.{publicShareLength, readCorrection}
-use Rattle.point.specs.Totals.{Report, rootSeed, strings, sumOf, reportShare, serverTotal, total, reportPublicShare}
+use Rattle.point.specs.Totals.{Report, rootSeed, strings, sumOf, reportShare, serverTotal, reportsTotal, reportPublicShare}
 use Rattle.point.specs.Instance.{fieldScheme, scheme}
 use Rattle.point.proofs.Honest.{report-read}
 use Rattle.point.proofs.Instance.{scheme-lawful, p-fits, scheme-count}
@@ -96,7 +96,7 @@ module _ (e : Expander) (n : ℕ) (from : 1 ≤ n) (rs : List (Report ℕ)) (hon
   -- Both servers' totals over at most 65,535 reports add modulo p to the number of strings that have the prefix.
   pub totals-count : length rs ≤ 65535 → (q : Bits) → 0 < length q → length q ≤ n
       → (serverTotal (scheme e) false q rs + serverTotal (scheme e) true q rs) % p ≡ count (strings rs) q
-  unfolding total fieldScheme
+  unfolding reportsTotal fieldScheme
   totals-count few q some fits =
       scheme-count e n q some fits rs
       (all-map (HonestReport n) _ (λ r h. h .made) rs honest) (all-map (HonestReport n) _ (λ r h. h .one) rs honest) few

@@ -2,17 +2,17 @@
 use Prim.Native.Nat.{ℕ, zero, suc, _*_}
 use mathlib.Core.Path.{_≡_}
 use mathlib.Core.Bool.{Bool, true, false, cond}
-use mathlib.Core.List.{List, [], _∷_, _++_}
+use mathlib.Core.List.{List, [], _++_}
 use mathlib.Core.Logic.{_⊎_}
 use mathlib.Core.Option.{Option, none, some}
 use lib.ListN.{length}
 use Rattle.bits.specs.Strings.{Bits}
-use Rattle.numbers.specs.Numbers.{little}
+use Rattle.numbers.specs.Numbers.{inBytes}
 use Rattle.calls.specs.Causes.{Cause}
 use Rattle.calls.specs.Outcome.{Outcome}
 use Rattle.group.specs.Modular.{field}
 use Rattle.query.specs.Query.{query, prefixLength, prefixCount, children}
-use Rattle.tree.specs.Search.{start, searchList}
+use Rattle.tree.specs.SearchRule.{start, searchList}
 use Rattle.idpf.specs.Share.{shareOutcome}
 use Rattle.combine.specs.Answer.{numbers, added, Answer, answerBytes, Kind, nextQuery, heavyList, searchEnded}
 use Rattle.combine.specs.Combine.{combineAnswer, spaceCauses, combineOutcome, combineKind}
@@ -25,11 +25,6 @@ Passes s = (searchNumber s ≡ 0) ⊎ (searchNumber s ≡ 11)
 -- the first query: `0`, `1`
 abbrev pub firstQuery : List ℕ
 firstQuery = query 0 (children start)
-
--- numbers, 8 bytes each
-abbrev pub inBytes : List ℕ → List ℕ
-inBytes [] = []
-inBytes (x ∷ xs) = little 8 x ++ inBytes xs
 
 -- What the calls leave: the record, each query followed by its totals; and the list.
 pub record Played : Type 0 where

@@ -20,7 +20,7 @@ use Rattle.expander.specs.declared.Expander.{Expander}
 use Rattle.expander.specs.declared.Choice.the-variants.{Known, Unknown}
 use Rattle.expander.proofs.Chosen.{unknown}
 use Rattle.group.specs.Modular.{p}
-use Rattle.point.specs.Share.{bitOf}
+use Rattle.point.specs.Evaluation.{bitOf}
 use Rattle.point.specs.PublicShare.{publicShareLength, payloadsBelow, spareBitsZero}
 use Rattle.point.proofs.Joined.{every-at}
 use Rattle.query.specs.Query.{prefixLength, prefixCount, packedPrefixes, prefixesOf, isQuery}

@@ -4,20 +4,19 @@ use native.Mathlib.Numerals.{add-one}
 use native.Mathlib.Omega.{arith}
 use mathlib.Core.Path.{_≡_, refl, sym, ap, _∙_}
 use mathlib.Core.Bool.{Bool, true}
-use mathlib.Core.List.{List, [], _++_}
+use mathlib.Core.List.{List, [], _++_, map}
 use lib.ListN.{length, getD, drop, drop-of-length-le}
 use lib.Seq.{drop-cons}
 use Rattle.bits.specs.Strings.{Bits}
-use Rattle.numbers.specs.Numbers.{little}
+use Rattle.numbers.specs.Numbers.{little, inBytes}
 use Rattle.bits.specs.Packing.{bitsOf, unpack}
 use Rattle.places.specs.Places.{putAt, overlay}
 use Rattle.numbers.proofs.Endian.{little-length}
 use Rattle.bits.proofs.Packed.{unpack-length}
 use Rattle.places.proofs.Places.{putAt-length, putAt-overlay, Grown, grown-start, grown-more, grown-end}
 use Rattle.expander.specs.declared.Expander.{Expander}
-use Rattle.point.specs.Share.{bitOf}
+use Rattle.point.specs.Evaluation.{bitOf}
 use Rattle.query.specs.Query.{prefixLength, prefixCount, prefixesOf, isQuery}
-use Rattle.tree.specs.Search.{totals}
 use Rattle.query.specs.Prefix.{packedPrefix}
 use Rattle.query.proofs.Ready.{prefix-size, prefix-unpack}
 use Rattle.report_sums.specs.Reports.{allCount, serverSum}
@@ -32,11 +31,11 @@ module _ (e : Expander) (n : ℕ) (b : Bool) (seeds shares : List ℕ) where
 
   -- the sums at all prefixes of a query
   abbrev pub all : List ℕ → List ℕ
-  all q = totals sumAt (prefixesOf q)
+  all q = inBytes (map sumAt (prefixesOf q))
 
   -- those that are left after i of them
   abbrev pub left : List ℕ → ℕ → List ℕ
-  left q i = totals sumAt (drop i (prefixesOf q))
+  left q i = inBytes (map sumAt (drop i (prefixesOf q)))
 
   -- A query that passes.
   module _ (q : List ℕ) (r : isQuery n q ≡ true) where

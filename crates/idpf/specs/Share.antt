@@ -1,17 +1,17 @@
 -- The call `share`: document 01, 'Keys and nodes', a server's share for a query. Assumes nothing.
 use Prim.Native.Nat.{ℕ, _*_, _/_}
 use mathlib.Core.Bool.{Bool, not}
-use mathlib.Core.List.{List, [], _∷_}
+use mathlib.Core.List.{List, [], _∷_, map}
 use lib.ListN.{length}
+use Rattle.numbers.specs.Numbers.{inBytes}
 use Rattle.bits.specs.Strings.{Bits}
 use Rattle.calls.specs.Bounds.{lengthCause, expanderCause, reportsCause, spaceCause}
 use Rattle.calls.specs.Causes.{Cause, cause}
 use Rattle.calls.specs.Outcome.{Outcome, judged, Exit, exit}
 use Rattle.expander.specs.Expander.{choiceOf, under}
 use Rattle.expander.specs.declared.Expander.{Expander}
-use Rattle.point.specs.Share.{bitOf}
+use Rattle.point.specs.Evaluation.{bitOf}
 use Rattle.query.specs.Query.{IsQuery, isQuery, prefixCount, prefixesOf}
-use Rattle.tree.specs.Search.{totals}
 use Rattle.report_sums.specs.Reports.{allCount, serverSum}
 use Rattle.report_sums.specs.Checks.{WrongLengths, wrongLengths, PayloadTooLarge, payloadTooLarge, SpareBitsSet, spareBitsSet}
 
@@ -30,7 +30,7 @@ shareCauses n e seeds shares query room =
 
 -- for each prefix of the query in order the sum over all lent reports, 8 bytes each
 unfoldable pub shareBytes : ℕ → Bool → List ℕ → List ℕ → List ℕ → Expander → List ℕ
-shareBytes n b seeds shares query e = totals (λ (q : Bits). serverSum e n b seeds shares allCount (bitOf q) (length q)) (prefixesOf query)
+shareBytes n b seeds shares query e = inBytes (map (λ (q : Bits). serverSum e n b seeds shares allCount (bitOf q) (length q)) (prefixesOf query))
 
 -- the outcome
 unfoldable pub shareOutcome : ℕ → ℕ → Bool → List ℕ → List ℕ → List ℕ → ℕ → Outcome
@@ -38,4 +38,4 @@ shareOutcome n e b seeds shares query room = judged (shareCauses n e seeds share
 
 -- what the call returns, and the space that it is lent, at exit
 abbrev pub shareExit : ℕ → ℕ → Bool → List ℕ → List ℕ → List ℕ → List ℕ → Exit
-shareExit n e b seeds shares query space = exit (shareOutcome n e b seeds shares query (length space)) space
+shareExit n e b seeds shares query area = exit (shareOutcome n e b seeds shares query (length area)) area

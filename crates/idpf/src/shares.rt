@@ -16,7 +16,7 @@ ghost use Rattle.numbers.specs.Numbers.{little};
 ghost use Rattle.places.specs.Places.{putAt, overlay};
 ghost use Rattle.bits.specs.Packing.{bitsOf};
 ghost use Rattle.calls.specs.Outcome.{judged, left};
-ghost use Rattle.point.specs.Share.{bitOf};
+ghost use Rattle.point.specs.Evaluation.{bitOf};
 ghost use Rattle.query.specs.Query.{isQuery, prefixCount};
 ghost use Rattle.query.specs.Prefix.{packedPrefix};
 ghost use Rattle.report_sums.specs.Reports.{allCount, serverSum};

@@ -14,7 +14,7 @@ use Rattle.expander.specs.declared.Expander.{Expander}
 use Rattle.point.specs.Node.{Node, final}
 use Rattle.point.specs.Correction.{Correction}
 use Rattle.point.specs.Keys.{keptChild, correction, keyNode, keyCorrection}
-use Rattle.point.specs.Share.{bitOf}
+use Rattle.point.specs.Evaluation.{bitOf}
 use Rattle.point.specs.PublicShare.{levelBytes, levelStart, publicShareLength}
 use Rattle.point.specs.Instance.{scheme}
 use Rattle.point.proofs.Correct.{key-seed}

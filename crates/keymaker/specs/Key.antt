@@ -13,7 +13,7 @@ use Rattle.calls.specs.Outcome.{Outcome, judged, Exit, exit}
 use Rattle.expander.specs.Expander.{choiceOf, under}
 use Rattle.expander.specs.declared.Expander.{Expander}
 use Rattle.point.specs.Keys.{keyCorrection}
-use Rattle.point.specs.Share.{bitOf}
+use Rattle.point.specs.Evaluation.{bitOf}
 use Rattle.point.specs.PublicShare.{publicShare, publicShareLength}
 use Rattle.point.specs.Instance.{scheme}
 
@@ -43,4 +43,4 @@ keyOutcome n e string seed0 seed1 room = judged (keyCauses n e string seed0 seed
 
 -- what the call returns, and the space that it is lent, at exit
 abbrev pub keyExit : ℕ → ℕ → List ℕ → List ℕ → List ℕ → List ℕ → Exit
-keyExit n e string seed0 seed1 space = exit (keyOutcome n e string seed0 seed1 (length space)) space
+keyExit n e string seed0 seed1 area = exit (keyOutcome n e string seed0 seed1 (length area)) area

@@ -12,7 +12,7 @@ ghost use Rattle.point.specs.Instance.{scheme};
 ghost use Rattle.point.specs.Node.{child, final, payloadOf};
 ghost use Rattle.point.specs.Correction.{corrected};
 ghost use Rattle.point.specs.Keys.{seedCorrection, leftCorrection, rightCorrection, keptChild, correction};
-ghost use Rattle.nodes.specs.Layout.{nodeOf, correctionOf};
+ghost use Rattle.nodes.specs.NodeLayout.{nodeOf, correctionOf};
 
 // Both servers' nodes on the string's path.
 pub(crate) struct Nodes {

@@ -27,7 +27,7 @@ ghost use Rattle.bits.specs.Packing.{packedLength};
 ghost use Rattle.calls.specs.Causes.{numberDue};
 ghost use Rattle.calls.specs.Outcome.{left};
 ghost use Rattle.point.specs.PublicShare.{levelBytes, publicShareLength};
-ghost use Rattle.nodes.specs.Layout.{correctionOf};
+ghost use Rattle.nodes.specs.NodeLayout.{correctionOf};
 ghost use Rattle.keymaker.specs.Key.{keyCauses, keyBytes, keyExit};
 
 // A bit as a number.

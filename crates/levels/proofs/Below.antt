@@ -16,7 +16,7 @@ use Rattle.bits.specs.Packing.{packedLength}
 use Rattle.places.specs.Places.{putAt}
 use Rattle.places.proofs.Places.{putAt-nil, putAt-length, putAt-more}
 use Rattle.query.specs.Query.{OfLength, packs, query, limit, children}
-use Rattle.tree.specs.Search.{totals, keptFrom, fitsFrom, recordFrom, isKept}
+use Rattle.tree.specs.SearchRule.{totals, keptFrom, fitsFrom, recordFrom, isKept}
 use Rattle.places.proofs.Lists.{and-left, and-right}
 use Rattle.query.proofs.Children.{children-length, children-longer}
 use Rattle.query.proofs.Queries.{query-length}
@@ -24,9 +24,9 @@ use Rattle.tree.proofs.Lengths.{totals-length}
 use Rattle.tree.proofs.Steps.{kept-nothing, fits-nothing, record-nothing}
 use Rattle.tree.proofs.Levels.{Listed, Fits, Written, recordLeft, listLeft, queriesLeft, AnsweredBelow}
 
-module _ (reaches : ℕ → Bool) (T : Bits → ℕ) where
+module _ (enough : ℕ → Bool) (T : Bits → ℕ) where
   abbrev keeps : Bits → Bool
-  keeps = isKept reaches T
+  keeps = isKept enough T
 
   abbrev kept : List Bits → List Bits
   kept qs = select keeps qs
@@ -34,21 +34,21 @@ module _ (reaches : ℕ → Bool) (T : Bits → ℕ) where
   -- ---- the record
 
   -- at length n the totals are the last of it
-  left-last : (k : ℕ) (qs : List Bits) → recordLeft reaches T 0 k qs ≡ totals T qs
+  left-last : (k : ℕ) (qs : List Bits) → recordLeft enough T 0 k qs ≡ totals T qs
   left-last k qs = append-nil (totals T qs)
 
   -- and so they are where nothing is kept
-  left-ended : (m k : ℕ) (qs : List Bits) → kept qs ≡ [] → recordLeft reaches T m k qs ≡ totals T qs
+  left-ended : (m k : ℕ) (qs : List Bits) → kept qs ≡ [] → recordLeft enough T m k qs ≡ totals T qs
   left-ended m k qs e = ap (λ (ps : List Bits). totals T qs ++ recordFrom keeps T m k ps) e ∙ rw (record-nothing keeps T m k) (append-nil (totals T qs))
 
   -- else the next query follows, and what is left below it
   pub level-next : (m k : ℕ) (ps : List Bits) → 1 ≤ length ps
-      → recordFrom keeps T (suc m) k ps ≡ query k (children ps) ++ recordLeft reaches T m (suc k) (children ps)
+      → recordFrom keeps T (suc m) k ps ≡ query k (children ps) ++ recordLeft enough T m (suc k) (children ps)
   level-next m k [] h = absurd (omega arith)
   level-next m k (p ∷ ps) h = append-assoc (query k (children (p ∷ ps))) (totals T (children (p ∷ ps))) _
 
   left-next : (m k : ℕ) (qs : List Bits) → 1 ≤ length (kept qs)
-      → recordLeft reaches T (suc m) k qs ≡ totals T qs ++ (query k (children (kept qs)) ++ recordLeft reaches T m (suc k) (children (kept qs)))
+      → recordLeft enough T (suc m) k qs ≡ totals T qs ++ (query k (children (kept qs)) ++ recordLeft enough T m (suc k) (children (kept qs)))
   left-next m k qs h = ap (λ (r : List ℕ). totals T qs ++ r) (level-next m k (kept qs) h)
 
   -- ---- the answers
@@ -63,7 +63,7 @@ module _ (reaches : ℕ → Bool) (T : Bits → ℕ) where
 
     -- at length n: the list is written, or does not fit
     pub last-answered : (l′ : List ℕ) (number recordLength listLength : ℕ) → Listed (packs (kept qs)) l l′ (place + 8 * count) number recordLength listLength
-        → AnsweredBelow reaches T 0 k qs place d l d₁ l′ number recordLength listLength
+        → AnsweredBelow enough T 0 k qs place d l d₁ l′ number recordLength listLength
     last-answered l′ number recordLength listLength =
         ⊎-elim
         (λ x. inl (
@@ -88,10 +88,10 @@ module _ (reaches : ℕ → Bool) (T : Bits → ℕ) where
         ))
 
     -- nothing is kept: the search has ended
-    pub ended-answered : (m recordLength : ℕ) → kept qs ≡ [] → recordLength ≡ place + 8 * count → AnsweredBelow reaches T m k qs place d l d₁ l 0 recordLength 0
+    pub ended-answered : (m recordLength : ℕ) → kept qs ≡ [] → recordLength ≡ place + 8 * count → AnsweredBelow enough T m k qs place d l d₁ l 0 recordLength 0
     unfolding packs
     ended-answered m recordLength e r =
-        let none : listLeft reaches T m qs ≡ [] = ap (λ (ps : List Bits). packs (keptFrom keeps m ps)) e ∙ ap packs (kept-nothing keeps m) in
+        let none : listLeft enough T m qs ≡ [] = ap (λ (ps : List Bits). packs (keptFrom keeps m ps)) e ∙ ap packs (kept-nothing keeps m) in
         inl (
           refl,
           record {
@@ -127,10 +127,10 @@ module _ (reaches : ℕ → Bool) (T : Bits → ℕ) where
 
       -- what is left from here on, and what is left below the next query
       abbrev here : List ℕ
-      here = recordLeft reaches T (suc m) k qs
+      here = recordLeft enough T (suc m) k qs
 
       abbrev below : List ℕ
-      below = recordLeft reaches T m (suc k) cs
+      below = recordLeft enough T m (suc k) cs
 
       here-below : here ≡ totals T qs ++ (query k cs ++ below)
       here-below = left-next m k qs (omega arith)
@@ -143,10 +143,10 @@ module _ (reaches : ℕ → Bool) (T : Bits → ℕ) where
 
       -- it would pass the limit, or with its totals the area
       pub next-refused : (leb number 65535 && leb (place + 8 * count + (6 + 2 * number * (w + 8))) (length d)) ≡ false
-          → AnsweredBelow reaches T (suc m) k qs place d l d₁ l 11 0 0
+          → AnsweredBelow enough T (suc m) k qs place d l d₁ l 11 0 0
       next-refused test = inr (refl, record { no-room = never; no-record = refl; no-list = refl; record-area = area-kept; list-area = refl })
         where
-          never : Fits here (listLeft reaches T (suc m) qs) (queriesLeft reaches T (suc m) qs) place d l → ⊥
+          never : Fits here (listLeft enough T (suc m) qs) (queriesLeft enough T (suc m) qs) place d l → ⊥
           never x =
               let fits : leb (length cs) limit ≡ true = and-left (leb (length cs) limit) (fitsFrom keeps m (kept cs)) (x .queries) in
               let few : number ≤ 65535 = omega (arith, leb-true (length cs) limit fits, next-length) in
@@ -163,10 +163,10 @@ module _ (reaches : ℕ → Bool) (T : Bits → ℕ) where
 
         -- what is left fits from here on, and from the next query on
         abbrev FitsHere : Type 0
-        FitsHere = Fits here (listLeft reaches T (suc m) qs) (queriesLeft reaches T (suc m) qs) place d l
+        FitsHere = Fits here (listLeft enough T (suc m) qs) (queriesLeft enough T (suc m) qs) place d l
 
         abbrev FitsBelow : Type 0
-        FitsBelow = Fits below (listLeft reaches T m cs) (queriesLeft reaches T m cs) there d₂ l
+        FitsBelow = Fits below (listLeft enough T m cs) (queriesLeft enough T m cs) there d₂ l
 
         fits-here : FitsBelow → FitsHere
         fits-here x =
@@ -187,8 +187,8 @@ module _ (reaches : ℕ → Bool) (T : Bits → ℕ) where
               queries = and-right (leb (length cs) limit) (fitsFrom keeps m (kept cs)) (x .queries);
             }
 
-        written-here : FitsBelow → Written below (listLeft reaches T m cs) there d₂ l d′ l′ recordLength listLength
-            → Written here (listLeft reaches T (suc m) qs) place d l d′ l′ recordLength listLength
+        written-here : FitsBelow → Written below (listLeft enough T m cs) there d₂ l d′ l′ recordLength listLength
+            → Written here (listLeft enough T (suc m) qs) place d l d′ l′ recordLength listLength
         written-here x y =
             let r : there + length below ≤ length d₂ = x .record-room in
             let e : there ≡ place + 8 * count + length (query k cs) = omega (arith, next-size) in
@@ -207,8 +207,8 @@ module _ (reaches : ℕ → Bool) (T : Bits → ℕ) where
               list-area = y .list-area;
             }
 
-        pub next-answered : AnsweredBelow reaches T m (suc k) cs there d₂ l d′ l′ n recordLength listLength
-            → AnsweredBelow reaches T (suc m) k qs place d l d′ l′ n recordLength listLength
+        pub next-answered : AnsweredBelow enough T m (suc k) cs there d₂ l d′ l′ n recordLength listLength
+            → AnsweredBelow enough T (suc m) k qs place d l d′ l′ n recordLength listLength
         next-answered =
             ⊎-elim (λ x. inl (x .0, fits-here (x .1), written-here (x .1) (x .2)))
             (λ x. inr (

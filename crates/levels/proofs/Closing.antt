@@ -12,7 +12,7 @@ use lib.Dec.{ltb}
 use Rattle.bits.specs.Strings.{Bits}
 use Rattle.places.proofs.Places.{putAt-overlay}
 use Rattle.calls.proofs.Decisions.{neither, neither-test}
-use Rattle.tree.specs.Search.{heading, searchRecord, searchList, searchFits}
+use Rattle.tree.specs.SearchRule.{heading, searchRecord, searchList, searchFits}
 use Rattle.tree.proofs.Levels.{Fits, Written, Refused, Answered, AnsweredAll}
 use Rattle.levels.specs.Levels.{endingWith, noRoom, endingOf, endingBy}
 
@@ -60,12 +60,12 @@ module _ (bytes strings : List ℕ) (within : Bool) (d l : List ℕ) where
       cleared other d″ f = ⊎-elim (λ x. absurd (other (x .0))) (λ x. refused (x .0) (x .1) d″ f) a
 
 -- of a whole search
-module _ (reaches : ℕ → Bool) (T : Bits → ℕ) (C n : ℕ) (d l d′ l′ : List ℕ) (number recordLength listLength : ℕ)
-    (a : AnsweredAll reaches T n d l d′ l′ number recordLength listLength) where
-  pub all-closed : number ≡ 0 → endingWith number recordLength listLength d′ l′ ≡ endingBy reaches T C n d l
+module _ (enough : ℕ → Bool) (T : Bits → ℕ) (C n : ℕ) (d l d′ l′ : List ℕ) (number recordLength listLength : ℕ)
+    (a : AnsweredAll enough T n d l d′ l′ number recordLength listLength) where
+  pub all-closed : number ≡ 0 → endingWith number recordLength listLength d′ l′ ≡ endingBy enough T C n d l
   unfolding searchRecord searchList searchFits heading
   all-closed = closed _ _ _ d l d′ l′ number recordLength listLength a
 
-  pub all-cleared : number ≢ 0 → (d″ : List ℕ) → d″ ≡ replicate (length d′) 0 → endingWith number recordLength listLength d″ l′ ≡ endingBy reaches T C n d l
+  pub all-cleared : number ≢ 0 → (d″ : List ℕ) → d″ ≡ replicate (length d′) 0 → endingWith number recordLength listLength d″ l′ ≡ endingBy enough T C n d l
   unfolding searchRecord searchList searchFits heading
   all-cleared = cleared _ _ _ d l d′ l′ number recordLength listLength a

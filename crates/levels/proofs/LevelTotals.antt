@@ -7,7 +7,7 @@ use mathlib.Core.Bool.{Bool, true, false}
 use mathlib.Core.List.{List, [], _∷_, _++_, map, append-assoc, append-nil}
 use lib.ListN.{length, take, drop}
 use lib.Seq.{drop-drop}
-use Rattle.places.specs.Lists.{digit, number}
+use Rattle.places.specs.Lists.{digit, howMany}
 use Rattle.bits.specs.Strings.{Bits}
 use Rattle.numbers.specs.Numbers.{little}
 use Rattle.bits.specs.Packing.{bitsOf, packedLength, unpack}
@@ -17,11 +17,11 @@ use Rattle.bits.proofs.Packed.{unpack-length}
 use Rattle.places.proofs.Places.{putAt-more, Grown, grown-start, grown-room, grown-more, grown-end}
 use Rattle.expander.specs.declared.Expander.{Expander}
 use Rattle.group.specs.Modular.{field}
-use Rattle.point.specs.Share.{bitOf}
+use Rattle.point.specs.Evaluation.{bitOf}
 use Rattle.report_sums.specs.Reports.{allCount, serverSum}
 use Rattle.report_sums.proofs.LentPrefix.{serverSum-unpack}
 use Rattle.query.specs.Query.{parts}
-use Rattle.tree.specs.Search.{totals}
+use Rattle.tree.specs.SearchRule.{totals}
 use Rattle.tree.proofs.Lengths.{totals-length}
 use Rattle.places.proofs.Lists.{number-le}
 use Rattle.levels.specs.Levels.{totalOf}
@@ -55,7 +55,7 @@ totals-append : (T : Bits → ℕ) (xs ys : List Bits) → totals T (xs ++ ys) �
 totals-append T [] ys = refl
 totals-append T (x ∷ xs) ys = ap (λ (l : List ℕ). little 8 (T x) ++ l) (totals-append T xs ys) ∙ sym (append-assoc (little 8 (T x)) (totals T xs) (totals T ys))
 
-number-append : (f : Bits → Bool) (xs ys : List Bits) → number f (xs ++ ys) ≡ number f xs + number f ys
+number-append : (f : Bits → Bool) (xs ys : List Bits) → howMany f (xs ++ ys) ≡ howMany f xs + howMany f ys
 number-append f [] ys = omega arith
 number-append f (x ∷ xs) ys = omega (arith, number-append f xs ys)
 
@@ -72,8 +72,8 @@ module _ (k w : ℕ) (e : w ≡ packedLength k) (at : ℕ) (d : List ℕ) where
   two-totals : (T : Bits → ℕ) → totals T (stringsAt k 2 at d) ≡ little 8 (T (stringAt k w d at)) ++ little 8 (T (stringAt k w d (at + w)))
   two-totals T = ap (totals T) two-strings ∙ ap (λ (l : List ℕ). little 8 (T (stringAt k w d at)) ++ l) (append-nil (little 8 (T (stringAt k w d (at + w)))))
 
-  two-number : (f : Bits → Bool) → number f (stringsAt k 2 at d) ≡ digit (f (stringAt k w d at)) + digit (f (stringAt k w d (at + w)))
-  two-number f = ap (number f) two-strings ∙ omega arith
+  two-number : (f : Bits → Bool) → howMany f (stringsAt k 2 at d) ≡ digit (f (stringAt k w d at)) + digit (f (stringAt k w d (at + w)))
+  two-number f = ap (howMany f) two-strings ∙ omega arith
 
   -- two totals written one after the other
   pub put-two : (T : Bits → ℕ) (place : ℕ) {out out′ : List ℕ} {x y : ℕ} → place + 16 ≤ length d → x ≡ T (stringAt k w d at) → y ≡ T (stringAt k w d (at + w))
@@ -85,7 +85,7 @@ module _ (k w : ℕ) (e : w ≡ packedLength k) (at : ℕ) (d : List ℕ) where
       g ∙ ap (λ (o : List ℕ). putAt o (place + 8) (little 8 y)) f ∙ rw m at put
       ∙ ap (putAt d place) (ap₂ (λ (i : ℕ) (j : ℕ). little 8 i ++ little 8 j) a b ∙ sym (two-totals T))
 
-  pub count-two : (f : Bits → Bool) {a b : ℕ} → a ≡ digit (f (stringAt k w d at)) → b ≡ digit (f (stringAt k w d (at + w))) → a + b ≡ number f (stringsAt k 2 at d)
+  pub count-two : (f : Bits → Bool) {a b : ℕ} → a ≡ digit (f (stringAt k w d at)) → b ≡ digit (f (stringAt k w d (at + w))) → a + b ≡ howMany f (stringsAt k 2 at d)
   count-two f g h = ap₂ _+_ g h ∙ sym (two-number f)
 
 -- ---- the loop
@@ -95,7 +95,7 @@ module _ (T : Bits → ℕ) (f : Bits → Bool) (k w : ℕ) (d : List ℕ) (coun
   pub record Standing (area : List ℕ) (left source here kept : ℕ) : Type 0 where
     pub inside : source + left * w ≤ place
     pub written : Grown d place area here (totals T (stringsAt k left source d)) (totals T (stringsAt k count from d))
-    pub counted : number f (stringsAt k count from d) ≡ kept + number f (stringsAt k left source d)
+    pub counted : howMany f (stringsAt k count from d) ≡ kept + howMany f (stringsAt k left source d)
     pub fewer : kept + left ≤ count
     pub paired : left % 2 ≡ 0
 
@@ -103,10 +103,10 @@ module _ (T : Bits → ℕ) (f : Bits → Bool) (k w : ℕ) (d : List ℕ) (coun
   standing-length {area} {left} {source} {here} s = grown-length d place area here _ _ (s .written)
 
   pub standing-end : {area : List ℕ} {left source here kept : ℕ} → Standing area left source here kept → left ≤ 0
-      → (area ≡ putAt d place (totals T (stringsAt k count from d))) × (kept ≡ number f (stringsAt k count from d))
+      → (area ≡ putAt d place (totals T (stringsAt k count from d))) × (kept ≡ howMany f (stringsAt k count from d))
   standing-end {area} {left} {source} {here} s h =
       let none = strings-none k left source d h in
-      (grown-end d place area here _ (rw none at (s .written)), omega (arith, ap (number f) none, s .counted))
+      (grown-end d place area here _ (rw none at (s .written)), omega (arith, ap (howMany f) none, s .counted))
 
   module _ (e : w ≡ packedLength k) (fits : place + 8 * count ≤ length d) where
     pub standing-start : place ≡ from + count * packedLength k → count % 2 ≡ 0 → Standing d count from place 0
@@ -159,11 +159,11 @@ module _ (T : Bits → ℕ) (f : Bits → Bool) (k w : ℕ) (d : List ℕ) (coun
           ∙ ap (map (unpack k))
           (parts-before (packedLength k) 2 source place d (s .written .0) (rw e at (next-inside .0)) (omega (arith, rw e at (next-inside .0))))
 
-      pub standing-more : {area′ : List ℕ} {r : ℕ} → area′ ≡ putAt area here (totals T (stringsAt k 2 source area)) → r ≡ number f (stringsAt k 2 source area)
+      pub standing-more : {area′ : List ℕ} {r : ℕ} → area′ ≡ putAt area here (totals T (stringsAt k 2 source area)) → r ≡ howMany f (stringsAt k 2 source area)
           → Standing area′ (left - 2) (source + 2 * w) (here + 16) (kept + r)
       standing-more {area′} {r} a b =
-          let told : r ≡ number f next = b ∙ ap (number f) as-before in
-          let all : number f (stringsAt k left source d) ≡ number f next + number f rest = ap (number f) next-rest ∙ number-append f next rest in
+          let told : r ≡ howMany f next = b ∙ ap (howMany f) as-before in
+          let all : howMany f (stringsAt k left source d) ≡ howMany f next + howMany f rest = ap (howMany f) next-rest ∙ number-append f next rest in
           record {
             inside = next-inside .1;
             written = grown-more d place area here (totals T next) (totals T rest) _ going whole-room area′ (here + 16)

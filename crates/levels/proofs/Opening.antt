@@ -13,7 +13,7 @@ use Rattle.bits.specs.Packing.{packedLength, value, packIn, pack}
 use Rattle.places.specs.Places.{putAt}
 use Rattle.places.proofs.Places.{putAt-length, putAt-more}
 use Rattle.query.specs.Query.{packs, query, parts, children}
-use Rattle.tree.specs.Search.{start, totals, keptFrom, fitsFrom, recordFrom, isKept}
+use Rattle.tree.specs.SearchRule.{start, totals, keptFrom, fitsFrom, recordFrom, isKept}
 use Rattle.tree.proofs.Lengths.{totals-length}
 use Rattle.tree.proofs.Levels.{Packed, Fits, Written, recordLeft, listLeft, queriesLeft, AnsweredBelow, AnsweredAll}
 use Rattle.query.proofs.Pieces.{stringsAt}
@@ -32,44 +32,44 @@ first-bytes = refl
 first-size : length (query 0 cs) ≡ 8
 first-size = ap length first-bytes
 
-module _ (reaches : ℕ → Bool) (T : Bits → ℕ) (n : ℕ) (some : 1 ≤ n) (d l : List ℕ) where
+module _ (enough : ℕ → Bool) (T : Bits → ℕ) (n : ℕ) (some : 1 ≤ n) (d l : List ℕ) where
   -- what a whole search writes
   abbrev whole : List ℕ
-  whole = recordFrom (isKept reaches T) T n 0 start
+  whole = recordFrom (isKept enough T) T n 0 start
 
   abbrev strings : List ℕ
-  strings = packs (keptFrom (isKept reaches T) n start)
+  strings = packs (keptFrom (isKept enough T) n start)
 
   abbrev within : Bool
-  within = fitsFrom (isKept reaches T) n start
+  within = fitsFrom (isKept enough T) n start
 
   -- what is left after the first query
   abbrev rest : List ℕ
-  rest = recordLeft reaches T (n - 1) 1 cs
+  rest = recordLeft enough T (n - 1) 1 cs
 
   one-more : n ≡ suc (n - 1)
   one-more = omega arith
 
   whole-rest : whole ≡ query 0 cs ++ rest
-  whole-rest = ap (λ (m : ℕ). recordFrom (isKept reaches T) T m 0 start) one-more ∙ level-next reaches T (n - 1) 0 start (omega arith)
+  whole-rest = ap (λ (m : ℕ). recordFrom (isKept enough T) T m 0 start) one-more ∙ level-next enough T (n - 1) 0 start (omega arith)
 
-  same-strings : strings ≡ listLeft reaches T (n - 1) cs
-  same-strings = ap (λ (m : ℕ). packs (keptFrom (isKept reaches T) m start)) one-more
+  same-strings : strings ≡ listLeft enough T (n - 1) cs
+  same-strings = ap (λ (m : ℕ). packs (keptFrom (isKept enough T) m start)) one-more
 
-  same-within : within ≡ queriesLeft reaches T (n - 1) cs
-  same-within = ap (λ (m : ℕ). fitsFrom (isKept reaches T) m start) one-more
+  same-within : within ≡ queriesLeft enough T (n - 1) cs
+  same-within = ap (λ (m : ℕ). fitsFrom (isKept enough T) m start) one-more
 
   whole-length : length whole ≡ 8 + length rest
   whole-length = ap length whole-rest ∙ length-append (query 0 cs) rest ∙ ap (λ (m : ℕ). m + length rest) first-size
 
   -- the area does not hold the first query and its totals
-  pub first-refused : length d < 24 → AnsweredAll reaches T n d l d l 11 0 0
+  pub first-refused : length d < 24 → AnsweredAll enough T n d l d l 11 0 0
   first-refused h =
       inr (
         refl,
         record {
           no-room = λ x. let r : 0 + length whole ≤ length d = x .record-room in
-              omega (arith, whole-length, length-append (totals T cs) (recordFrom (isKept reaches T) T (n - 1) 1 (select (isKept reaches T) cs)), totals-length T cs);
+              omega (arith, whole-length, length-append (totals T cs) (recordFrom (isKept enough T) T (n - 1) 1 (select (isKept enough T) cs)), totals-length T cs);
           no-record = refl;
           no-list = refl;
           record-area = refl;
@@ -92,18 +92,18 @@ module _ (reaches : ℕ → Bool) (T : Bits → ℕ) (n : ℕ) (some : 1 ≤ n) 
     first-strings = query-strings 0 cs (refl, (refl, tt)) d 0 query-room d₁ f 1 2 refl refl
 
     module _ (d′ l′ : List ℕ) (number recordLength listLength : ℕ) where
-      fits-all : Fits rest (listLeft reaches T (n - 1) cs) (queriesLeft reaches T (n - 1) cs) 8 d₁ l → Fits whole strings within 0 d l
+      fits-all : Fits rest (listLeft enough T (n - 1) cs) (queriesLeft enough T (n - 1) cs) 8 d₁ l → Fits whole strings within 0 d l
       fits-all x =
           let r : 8 + length rest ≤ length d₁ = x .record-room in
           record { record-room = omega (arith, whole-length, area-length); list-room = rw same-strings (x .list-room); queries = same-within ∙ x .queries }
 
-      fits-rest : Fits whole strings within 0 d l → Fits rest (listLeft reaches T (n - 1) cs) (queriesLeft reaches T (n - 1) cs) 8 d₁ l
+      fits-rest : Fits whole strings within 0 d l → Fits rest (listLeft enough T (n - 1) cs) (queriesLeft enough T (n - 1) cs) 8 d₁ l
       fits-rest x =
           let r : 0 + length whole ≤ length d = x .record-room in
           record { record-room = omega (arith, whole-length, area-length); list-room = rw (← same-strings) (x .list-room); queries = sym same-within ∙ x .queries }
 
-      written-all : Fits rest (listLeft reaches T (n - 1) cs) (queriesLeft reaches T (n - 1) cs) 8 d₁ l
-          → Written rest (listLeft reaches T (n - 1) cs) 8 d₁ l d′ l′ recordLength listLength → Written whole strings 0 d l d′ l′ recordLength listLength
+      written-all : Fits rest (listLeft enough T (n - 1) cs) (queriesLeft enough T (n - 1) cs) 8 d₁ l
+          → Written rest (listLeft enough T (n - 1) cs) 8 d₁ l d′ l′ recordLength listLength → Written whole strings 0 d l d′ l′ recordLength listLength
       written-all x y =
           let r : 8 + length rest ≤ length d₁ = x .record-room in
           let q : 0 + length (query 0 cs) + length rest ≤ length d = omega (arith, area-length, first-size) in
@@ -116,11 +116,11 @@ module _ (reaches : ℕ → Bool) (T : Bits → ℕ) (n : ℕ) (some : 1 ≤ n) 
             list-area = y .list-area ∙ ap (putAt l 0) (sym same-strings);
           }
 
-      pub first-answered : AnsweredBelow reaches T (n - 1) 1 (stringsAt 1 2 6 d₁) (6 + 2 * packedLength 1) d₁ l d′ l′ number recordLength listLength
-          → AnsweredAll reaches T n d l d′ l′ number recordLength listLength
+      pub first-answered : AnsweredBelow enough T (n - 1) 1 (stringsAt 1 2 6 d₁) (6 + 2 * packedLength 1) d₁ l d′ l′ number recordLength listLength
+          → AnsweredAll enough T n d l d′ l′ number recordLength listLength
       first-answered a = go (rw first-strings at a)
         where
-          go : AnsweredBelow reaches T (n - 1) 1 cs 8 d₁ l d′ l′ number recordLength listLength → AnsweredAll reaches T n d l d′ l′ number recordLength listLength
+          go : AnsweredBelow enough T (n - 1) 1 cs 8 d₁ l d′ l′ number recordLength listLength → AnsweredAll enough T n d l d′ l′ number recordLength listLength
           go =
               ⊎-elim (λ x. inl (x .0, fits-all (x .1), written-all (x .1) (x .2)))
               (λ x. inr (

@@ -86,18 +86,18 @@ pub packed-step : (k w : ℕ) → w ≡ packedLength k → (d : List ℕ) (m fro
 packed-step k w e d m from h p = rw e (rw (parts-step (packedLength k) m from d h) at p)
 
 -- those that are kept: the first, and those after it
-module _ (reaches : ℕ → Bool) (k : ℕ) (d : List ℕ) (w : ℕ) (e : w ≡ packedLength k) (m from place : ℕ) (h : 0 < m) (room : place + 8 ≤ length d) (b : Bool)
-    (f : b ≡ reaches (fromLittle (window 8 place d))) where
+module _ (enough : ℕ → Bool) (k : ℕ) (d : List ℕ) (w : ℕ) (e : w ≡ packedLength k) (m from place : ℕ) (h : 0 < m) (room : place + 8 ≤ length d) (b : Bool)
+    (f : b ≡ enough (fromLittle (window 8 place d))) where
   abbrev others : List ℕ
   others = numbersAt (m - 1) (place + 8) d
 
-  pub children-at : packs (children (reachingAt reaches k d m from place))
-      ≡ cond b (bothChildren (unpack k (take w (drop from d)))) [] ++ packs (children (reachingAt reaches k d (m - 1) (from + w) (place + 8)))
-  children-at = rw (numbers-step m place d h room) (children-step reaches k d w e m from h (fromLittle (window 8 place d)) others b f)
+  pub children-at : packs (children (reachingAt enough k d m from place))
+      ≡ cond b (bothChildren (unpack k (take w (drop from d)))) [] ++ packs (children (reachingAt enough k d (m - 1) (from + w) (place + 8)))
+  children-at = rw (numbers-step m place d h room) (children-step enough k d w e m from h (fromLittle (window 8 place d)) others b f)
 
   pub list-at : from + w ≤ length d → pack (unpack k (take w (drop from d))) ≡ take w (drop from d)
-      → packs (reachingAt reaches k d m from place) ≡ cond b (part w from d) [] ++ packs (reachingAt reaches k d (m - 1) (from + w) (place + 8))
-  list-at inside p = rw (numbers-step m place d h room) (list-step reaches k d w e m from h (fromLittle (window 8 place d)) others b f inside p)
+      → packs (reachingAt enough k d m from place) ≡ cond b (part w from d) [] ++ packs (reachingAt enough k d (m - 1) (from + w) (place + 8))
+  list-at inside p = rw (numbers-step m place d h room) (list-step enough k d w e m from h (fromLittle (window 8 place d)) others b f inside p)
 
 -- ---- a loop that writes
 

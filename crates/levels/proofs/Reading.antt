@@ -15,7 +15,7 @@ use Rattle.places.specs.Places.{putAt}
 use Rattle.bits.proofs.Packed.{pack-length, unpack-length, unpack-pack}
 use Rattle.places.proofs.Places.{putAt-inside}
 use Rattle.query.specs.Query.{OfLength, packs, query, parts}
-use Rattle.tree.specs.Search.{totals, isKept}
+use Rattle.tree.specs.SearchRule.{totals, isKept}
 use Rattle.places.proofs.Lists.{all-map, all-select}
 use Rattle.tree.proofs.Lengths.{totals-length}
 use Rattle.tree.proofs.Read.{totals-read}
@@ -43,7 +43,7 @@ strings-bits k (suc m) from d h =
 
 -- ---- totals
 
-module _ (reaches : ℕ → Bool) (T : Bits → ℕ) (small : (q : Bits) → T q < 256 ^ 8) where
+module _ (enough : ℕ → Bool) (T : Bits → ℕ) (small : (q : Bits) → T q < 256 ^ 8) where
   module _ (k m from place : ℕ) (d : List ℕ) (e : place ≡ from + m * packedLength k) (room : place + 8 * m ≤ length d) (out : List ℕ)
       (f : out ≡ putAt d place (totals T (stringsAt k m from d))) where
     abbrev qs : List Bits
@@ -64,14 +64,14 @@ module _ (reaches : ℕ → Bool) (T : Bits → ℕ) (small : (q : Bits) → T q
         ∙ totals-read T small qs (drop (place + length (totals T qs)) d)
 
     -- those that reach t are those that are kept
-    pub reaching-kept : reachingAt reaches k out m from place ≡ select (isKept reaches T) qs
+    pub reaching-kept : reachingAt enough k out m from place ≡ select (isKept enough T) qs
     reaching-kept =
-        ap₂ (λ (a : List (List ℕ)) (b : List ℕ). kept reaches (map (unpack k) a) b) same-parts same-numbers ∙ kept-select reaches T qs
+        ap₂ (λ (a : List (List ℕ)) (b : List ℕ). kept enough (map (unpack k) a) b) same-parts same-numbers ∙ kept-select enough T qs
 
     -- and have k bits too
-    pub kept-bits : OfLength k (select (isKept reaches T) qs)
+    pub kept-bits : OfLength k (select (isKept enough T) qs)
     kept-bits =
-        all-select (λ q. length q ≡ k) (isKept reaches T) qs
+        all-select (λ q. length q ≡ k) (isKept enough T) qs
         (all-map (λ q. length q ≡ k) _ (λ q h _. h) qs (strings-bits k m from d (omega arith)))
 
 -- ---- the prefixes of a query

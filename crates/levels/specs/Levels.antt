@@ -8,11 +8,11 @@ use Rattle.bits.specs.Strings.{Bits}
 use Rattle.places.specs.Places.{overlay}
 use Rattle.expander.specs.declared.Expander.{Expander}
 use Rattle.group.specs.Modular.{field}
-use Rattle.point.specs.Share.{bitOf}
+use Rattle.point.specs.Evaluation.{bitOf}
 use Rattle.kept.specs.Kept.{reachesBy}
 use Rattle.kept.specs.declared.Rule.{Rule}
 use Rattle.query.specs.Query.{packs}
-use Rattle.tree.specs.Search.{searchRecord, searchList, searchFits}
+use Rattle.tree.specs.SearchRule.{searchRecord, searchList, searchFits}
 use Rattle.report_sums.specs.Reports.{allCount, serverSum}
 
 -- the total of the prefix q: the sum of all reports' shares from both servers, whatever bytes were lent for reports
@@ -50,7 +50,7 @@ endingOf bytes strings within recordArea listArea =
 
 -- the outcome of a search for strings of n bits over C reports with the totals T, by the search rule
 abbrev pub endingBy : (ℕ → Bool) → (Bits → ℕ) → ℕ → ℕ → List ℕ → List ℕ → Ending
-endingBy reaches T C n = endingOf (searchRecord reaches T C n) (packs (searchList reaches T n)) (searchFits reaches T n)
+endingBy enough T C n = endingOf (searchRecord enough T C n) (packs (searchList enough T n)) (searchFits enough T n)
 
 -- the same with the totals of what was lent
 unfoldable pub ending : Rule → Expander → ℕ → List ℕ → List ℕ → List ℕ → List ℕ → List ℕ → List ℕ → Ending

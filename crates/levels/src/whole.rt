@@ -10,7 +10,7 @@ ghost use lib.ListN.{length, replicate};
 ghost use Rattle.places.specs.Places.{putAt};
 ghost use Rattle.kept.specs.Kept.{reachesBy};
 ghost use Rattle.query.specs.Query.{query, children};
-ghost use Rattle.tree.specs.Search.{start};
+ghost use Rattle.tree.specs.SearchRule.{start};
 ghost use Rattle.levels.specs.Levels.{totalOf};
 ghost use Rattle.tree.proofs.Levels.{AnsweredAll};
 

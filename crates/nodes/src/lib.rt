@@ -9,7 +9,7 @@ ghost use Rattle.point.specs.Instance.{scheme};
 ghost use Rattle.point.specs.Node.{controlBit, cleared, child};
 ghost use Rattle.point.specs.Correction.{corrected};
 ghost use Rattle.point.specs.PublicShare.{levelStart, publicShareLength};
-ghost use Rattle.nodes.specs.Layout.{nodeOf};
+ghost use Rattle.nodes.specs.NodeLayout.{nodeOf};
 
 // A seed and a control bit.
 pub struct Node {

@@ -1,6 +1,6 @@
 -- Numbers as bytes. Assumes nothing.
 use Prim.Native.Nat.{ℕ, zero, suc, _+_, _*_, _/_, _%_, _^_}
-use mathlib.Core.List.{List, [], _∷_}
+use mathlib.Core.List.{List, [], _∷_, _++_}
 use lib.ListN.{length}
 
 -- x in n bytes, least significant first, kept to as many bits as they have
@@ -22,3 +22,8 @@ big (suc n) x = x / 256 ^ n % 256 ∷ big n x
 unfoldable pub fromBig : List ℕ → ℕ
 fromBig [] = 0
 fromBig (b ∷ bs) = b * 256 ^ length bs + fromBig bs
+
+-- numbers, 8 bytes each, least significant first
+abbrev pub inBytes : List ℕ → List ℕ
+inBytes [] = []
+inBytes (x ∷ xs) = little 8 x ++ inBytes xs

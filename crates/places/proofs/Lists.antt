@@ -7,7 +7,7 @@ use mathlib.Core.Bool.{Bool, true, false, cond, _&&_}
 use mathlib.Core.List.{List, [], _∷_, map}
 use mathlib.Core.List.{List·Memᴰ·head as here, List·Memᴰ·tail as there}
 use lib.ListN.{length}
-use Rattle.places.specs.Lists.{digit, _∈_, All, select, number}
+use Rattle.places.specs.Lists.{digit, _∈_, All, select, howMany}
 
 pub and-left : (a b : Bool) → (a && b) ≡ true → a ≡ true
 and-left true b e = refl
@@ -50,29 +50,29 @@ module _ {A : Type 0} where
       go true i = there i
       go false i = i
 
-  pub select-length : (f : A → Bool) (xs : List A) → length (select f xs) ≡ number f xs
+  pub select-length : (f : A → Bool) (xs : List A) → length (select f xs) ≡ howMany f xs
   select-length f [] = refl
   select-length f (x ∷ xs) = go (f x) (select-length f xs)
     where
-      go : (c : Bool) → length (select f xs) ≡ number f xs → length (cond c (x ∷ select f xs) (select f xs)) ≡ digit c + number f xs
+      go : (c : Bool) → length (select f xs) ≡ howMany f xs → length (cond c (x ∷ select f xs) (select f xs)) ≡ digit c + howMany f xs
       go true e = omega arith
       go false e = omega arith
 
-  pub number-le : (f : A → Bool) (xs : List A) → number f xs ≤ length xs
+  pub number-le : (f : A → Bool) (xs : List A) → howMany f xs ≤ length xs
   number-le f [] = omega arith
   number-le f (x ∷ xs) = omega (arith, digit-le (f x), number-le f xs)
 
-  pub number-cong : (f g : A → Bool) (xs : List A) → All (λ x. f x ≡ g x) xs → number f xs ≡ number g xs
+  pub number-cong : (f g : A → Bool) (xs : List A) → All (λ x. f x ≡ g x) xs → howMany f xs ≡ howMany g xs
   number-cong f g [] h = refl
   number-cong f g (x ∷ xs) h = ap₂ (λ b n. digit b + n) (h .0) (number-cong f g xs (h .1))
 
-  pub number-and : (c : Bool) (f : A → Bool) (xs : List A) → number (λ x. c && f x) xs ≡ cond c (number f xs) 0
+  pub number-and : (c : Bool) (f : A → Bool) (xs : List A) → howMany (λ x. c && f x) xs ≡ cond c (howMany f xs) 0
   number-and true f xs = refl
   number-and false f [] = refl
   number-and false f (x ∷ xs) = omega (arith, number-and false f xs)
 
 module _ {A B : Type 0} where
-  pub number-map : (f : B → Bool) (g : A → B) (xs : List A) → number f (map g xs) ≡ number (λ x. f (g x)) xs
+  pub number-map : (f : B → Bool) (g : A → B) (xs : List A) → howMany f (map g xs) ≡ howMany (λ x. f (g x)) xs
   number-map f g [] = refl
   number-map f g (x ∷ xs) = ap (λ n. digit (f (g x)) + n) (number-map f g xs)
 

@@ -25,6 +25,6 @@ module _ {A : Type 0} where
   select f (x ∷ xs) = cond (f x) (x ∷ select f xs) (select f xs)
 
   -- how many elements pass the test
-  abbrev pub number : (A → Bool) → List A → ℕ
-  number f [] = 0
-  number f (x ∷ xs) = digit (f x) + number f xs
+  abbrev pub howMany : (A → Bool) → List A → ℕ
+  howMany f [] = 0
+  howMany f (x ∷ xs) = digit (f x) + howMany f xs

@@ -13,7 +13,7 @@ use Rattle.point.specs.Scheme.{Scheme, Lawful}
 use Rattle.point.specs.Node.{Node, child, final, payloadOf}
 use Rattle.point.specs.Correction.{Correction, corrected, correctedChild}
 use Rattle.point.specs.Keys.{seedCorrection, leftCorrection, rightCorrection, keptChild, payloadCorrection, correction, keyNode, keyCorrection}
-use Rattle.point.specs.Share.{descend, correctedPayload, shareBelow, node, share}
+use Rattle.point.specs.Evaluation.{descend, correctedPayload, shareBelow, node, share}
 use Rattle.point.proofs.Seeds.{corrected-bytes, child-bytes, final-bytes}
 
 -- whether q and α agree on their first k bits

@@ -10,7 +10,7 @@ use Rattle.places.specs.Lists.{All, digit}
 use Rattle.bits.specs.Strings.{Bits, isPrefix, count}
 use Rattle.group.specs.Modular.{modular}
 use Rattle.point.specs.Scheme.{Scheme, Lawful}
-use Rattle.point.specs.Totals.{Report, Made, strings, holders, sumOf, total}
+use Rattle.point.specs.Totals.{Report, Made, strings, holders, sumOf, reportsTotal}
 use Rattle.point.proofs.Joined.{digit-le}
 use Rattle.point.proofs.Totals.{Embeds, total-whole}
 
@@ -38,7 +38,7 @@ abbrev pub One : Report ℕ → Type 0
 One r = r .weight ≡ 1
 
 pub total-count : (m : ℕ) (S : Scheme ℕ) → S .group ≡ modular m → Lawful ℕ S (λ x. x < m) → (n : ℕ) (q : Bits) → 0 < length q → length q ≤ n →
-    (rs : List (Report ℕ)) → All (Made (λ x. x < m) n) rs → All One rs → 1 < m → length rs < m → total S q rs ≡ count (strings rs) q
+    (rs : List (Report ℕ)) → All (Made (λ x. x < m) n) rs → All One rs → 1 < m → length rs < m → reportsTotal S q rs ≡ count (strings rs) q
 total-count m S g L n q some fits rs made one big few =
     total-whole S L _+_ 0 (λ x. x % m) (rw g (residue-embeds m)) (λ r. 1) n q some fits rs made (weights rs one)
     ∙ ap (λ (x : ℕ). x % m) (ones q rs) ∙ mod-eq-of-lt (omega (arith, count-le q rs))

@@ -15,14 +15,14 @@ use Rattle.point.specs.Scheme.{Scheme}
 use Rattle.point.specs.Node.{controlBit, cleared, child, final, payloadOf}
 use Rattle.point.specs.Correction.{corrected, correctedChild}
 use Rattle.point.specs.Keys.{seedCorrection, leftCorrection, rightCorrection, keptChild, payloadCorrection, correction, keyNode, keyCorrection}
-use Rattle.point.specs.Share.{descend, correctedPayload, shareBelow, node, share}
+use Rattle.point.specs.Evaluation.{descend, correctedPayload, shareBelow, node, share}
 use Rattle.point.specs.PublicShare.{joined, lowestFirst, levelBit, controlByte, levelBytes, publicShare, readCorrection, every, payloadsBelow, spareBitsZero}
-use Rattle.point.specs.Totals.{Report, sumOf, reportCorrection, reportShare, serverTotal, total, reportPublicShare}
+use Rattle.point.specs.Totals.{Report, sumOf, reportCorrection, reportShare, serverTotal, reportsTotal, reportPublicShare}
 use Rattle.point.specs.Instance.{fieldScheme, scheme}
 
 -- Naming `computes` on an `unfolding` line opens every definition that the examples run through.
 computes : Unit {0}
-unfolding xor xorBytes little fromLittle window classroomBlock controlBit cleared child final payloadOf corrected correctedChild seedCorrection leftCorrection rightCorrection keptChild payloadCorrection correction keyNode keyCorrection descend correctedPayload shareBelow node share joined lowestFirst levelBit controlByte levelBytes publicShare readCorrection every payloadsBelow spareBitsZero sumOf reportCorrection reportShare serverTotal total reportPublicShare fieldScheme
+unfolding xor xorBytes little fromLittle window classroomBlock controlBit cleared child final payloadOf corrected correctedChild seedCorrection leftCorrection rightCorrection keptChild payloadCorrection correction keyNode keyCorrection descend correctedPayload shareBelow node share joined lowestFirst levelBit controlByte levelBytes publicShare readCorrection every payloadsBelow spareBitsZero sumOf reportCorrection reportShare serverTotal reportsTotal reportPublicShare fieldScheme
 computes = tt
 
 -- ---- the sheet of document 01, under expander 2
@@ -59,7 +59,7 @@ C = refl
 reportH : Report ℕ
 reportH = record { string = true ∷ []; seed0 = nought; seed1 = nought; weight = 1 }
 
-H : (total classroom (true ∷ []) (reportH ∷ []) ∷ total classroom (false ∷ []) (reportH ∷ []) ∷ []) ≡ 1 ∷ 0 ∷ []
+H : (reportsTotal classroom (true ∷ []) (reportH ∷ []) ∷ reportsTotal classroom (false ∷ []) (reportH ∷ []) ∷ []) ≡ 1 ∷ 0 ∷ []
 unfolding computes classroom nought reportH
 H = refl
 

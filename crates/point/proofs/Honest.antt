@@ -8,7 +8,7 @@ use lib.ListN.{length}
 use Rattle.places.specs.Places.{Bytes}
 use Rattle.bits.specs.Strings.{Bits}
 use Rattle.point.specs.Scheme.{Scheme, Lawful}
-use Rattle.point.specs.Share.{bitOf, shareAt}
+use Rattle.point.specs.Evaluation.{bitOf, shareAt}
 use Rattle.point.specs.PublicShare.{publicShareLength, readCorrection, payloadsBelow, spareBitsZero, Wellformed}
 use Rattle.point.specs.Totals.{Report, Made, rootSeed, reportCorrection, reportShare, reportPublicShare}
 use Rattle.point.proofs.Correct.{key-seed, key-payload}

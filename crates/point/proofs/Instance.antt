@@ -15,8 +15,8 @@ use Rattle.expander.specs.declared.Expander.{Expander}
 use Rattle.expander.proofs.Sized.{block-bytes}
 use Rattle.point.specs.Scheme.{Lawful}
 use Rattle.point.specs.Keys.{keyCorrection}
-use Rattle.point.specs.Share.{bitOf, shareAt}
-use Rattle.point.specs.Totals.{Report, Made, strings, total}
+use Rattle.point.specs.Evaluation.{bitOf, shareAt}
+use Rattle.point.specs.Totals.{Report, Made, strings, reportsTotal}
 use Rattle.point.specs.Instance.{fieldScheme, scheme}
 use Rattle.point.proofs.Prefix.{prefix-correct}
 use Rattle.point.proofs.Count.{One, total-count}
@@ -43,7 +43,7 @@ scheme-correct e = prefix-correct (scheme e) (scheme-lawful e)
 
 -- with weight one the total of at most 65,535 reports is the number of strings that have the prefix
 pub scheme-count : (e : Expander) (n : ℕ) (q : Bits) → 0 < length q → length q ≤ n →
-    (rs : List (Report ℕ)) → All (Made (λ x. x < modulus) n) rs → All One rs → length rs ≤ 65535 → total (scheme e) q rs ≡ count (strings rs) q
+    (rs : List (Report ℕ)) → All (Made (λ x. x < modulus) n) rs → All One rs → length rs ≤ 65535 → reportsTotal (scheme e) q rs ≡ count (strings rs) q
 unfolding fieldScheme
 scheme-count e n q some fits rs made one few =
     total-count modulus (scheme e) refl (scheme-lawful e) n q some fits rs made one (omega arith) (omega arith)

@@ -10,7 +10,7 @@ use lib.Seq.{getD-append-seam}
 use Rattle.bits.specs.Strings.{Bits, _▹_}
 use Rattle.point.specs.Scheme.{Scheme}
 use Rattle.point.specs.Correction.{Correction}
-use Rattle.point.specs.Share.{bitOf, descend, node, share, nodeAt}
+use Rattle.point.specs.Evaluation.{bitOf, descend, node, share, nodeAt}
 
 -- f and g agree below k
 abbrev pub Below : {X : Type 0} → ℕ → (ℕ → X) → (ℕ → X) → Type 0

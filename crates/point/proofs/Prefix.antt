@@ -10,7 +10,7 @@ use Rattle.places.specs.Places.{Bytes}
 use Rattle.bits.specs.Strings.{Bits, isPrefix}
 use Rattle.point.specs.Scheme.{Scheme, Lawful}
 use Rattle.point.specs.Keys.{keyCorrection}
-use Rattle.point.specs.Share.{bitOf, shareAt}
+use Rattle.point.specs.Evaluation.{bitOf, shareAt}
 use Rattle.point.proofs.Correct.{agree, key-correct}
 
 agree-front : (q α : ℕ → Bool) (k : ℕ) → agree q α (suc k) ≡ (Bool·beq (q 0) (α 0) && agree (λ i. q (suc i)) (λ i. α (suc i)) k)

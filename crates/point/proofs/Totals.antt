@@ -10,7 +10,7 @@ use Rattle.bits.specs.Strings.{Bits, isPrefix}
 use Rattle.group.specs.Group.{Group, CommutativeGroup}
 use Rattle.group.proofs.Laws.{interchange}
 use Rattle.point.specs.Scheme.{Scheme, Lawful}
-use Rattle.point.specs.Totals.{Report, Made, holders, sumOf, reportCorrection, reportShare, serverTotal, total}
+use Rattle.point.specs.Totals.{Report, Made, holders, sumOf, reportCorrection, reportShare, serverTotal, reportsTotal}
 use Rattle.point.proofs.Prefix.{prefix-correct}
 
 module _ {A : Type 0} (S : Scheme A) {In : A → Type 0} (L : Lawful A S In) where
@@ -36,8 +36,8 @@ module _ {A : Type 0} (S : Scheme A) {In : A → Type 0} (L : Lawful A S In) whe
     unfolding reportShare reportCorrection
     report-correct r h = prefix-correct S L (r .weight) (h .in-group) (r .seed0) (r .seed1) (h .sized0) (h .sized1) (r .string) q some (omega arith)
 
-    pub total-correct : (rs : List (Report A)) → All (Made In n) rs → total S q rs ≡ sumOf add zero (λ r. r .weight) (holders q rs)
-    unfolding total serverTotal sumOf
+    pub total-correct : (rs : List (Report A)) → All (Made In n) rs → reportsTotal S q rs ≡ sumOf add zero (λ r. r .weight) (holders q rs)
+    unfolding reportsTotal serverTotal sumOf
     total-correct [] a = unit _ in-zero
     total-correct (r ∷ rs) a =
         interchange (S .group) (L .laws) _ _ _ _ ∙ ap₂ add (report-correct r (a .0)) (total-correct rs (a .1))
@@ -64,11 +64,11 @@ module _ {A : Type 0} (G : Group A) {M : Type 0} (plus : M → M → M) (nil : M
 module _ {A : Type 0} (S : Scheme A) {In : A → Type 0} (L : Lawful A S In) {M : Type 0} (plus : M → M → M) (nil : M) (e : M → A)
     (E : Embeds (S .group) plus nil e) (whole : Report A → M) (n : ℕ) (q : Bits) (some : 0 < length q) (fits : length q ≤ n)
     (rs : List (Report A)) (made : All (Made In n) rs) (weights : All (λ r. r .weight ≡ e (whole r)) rs) where
-  pub total-whole : total S q rs ≡ e (sumOf plus nil whole (holders q rs))
+  pub total-whole : reportsTotal S q rs ≡ e (sumOf plus nil whole (holders q rs))
   total-whole =
       total-correct S L n q some fits rs made
       ∙ sum-embeds (S .group) plus nil e E (λ r. r .weight) whole (λ r. isPrefix q (r .string)) rs weights
 
   pub total-read : (read : A → M) → read (e (sumOf plus nil whole (holders q rs))) ≡ sumOf plus nil whole (holders q rs) →
-      read (total S q rs) ≡ sumOf plus nil whole (holders q rs)
+      read (reportsTotal S q rs) ≡ sumOf plus nil whole (holders q rs)
   total-read read back = ap read total-whole ∙ back

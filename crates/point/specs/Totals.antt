@@ -10,7 +10,7 @@ use Rattle.places.specs.Places.{Bytes}
 use Rattle.point.specs.Scheme.{Scheme}
 use Rattle.point.specs.Correction.{Correction}
 use Rattle.point.specs.Keys.{keyCorrection}
-use Rattle.point.specs.Share.{bitOf, shareAt}
+use Rattle.point.specs.Evaluation.{bitOf, shareAt}
 use Rattle.point.specs.PublicShare.{publicShare}
 
 -- A report: its string, the two root seeds and the weight.
@@ -59,8 +59,8 @@ module _ {A : Type 0} (S : Scheme A) where
   serverTotal b q = sumOf (S .group .add) (S .group .zero) (reportShare b q)
 
   -- the total of both servers
-  unfoldable pub total : Bits → List (Report A) → A
-  total q rs = S .group .add (serverTotal false q rs) (serverTotal true q rs)
+  unfoldable pub reportsTotal : Bits → List (Report A) → A
+  reportsTotal q rs = S .group .add (serverTotal false q rs) (serverTotal true q rs)
 
 -- the public share of a report of n bits
 unfoldable pub reportPublicShare : Scheme ℕ → ℕ → Report ℕ → List ℕ

@@ -11,7 +11,7 @@ use Rattle.places.specs.Places.{Bytes, window}
 use Rattle.places.proofs.Places.{window-inside, window-bytes}
 use Rattle.expander.specs.declared.Expander.{Expander}
 use Rattle.group.specs.Modular.{field}
-use Rattle.point.specs.Share.{share}
+use Rattle.point.specs.Evaluation.{share}
 use Rattle.point.specs.PublicShare.{publicShareLength, readCorrection}
 use Rattle.point.specs.Instance.{scheme}
 use Rattle.report_sums.specs.Reports.{reportCount, seedAt, publicShareAt, sumWhere, lentShare}

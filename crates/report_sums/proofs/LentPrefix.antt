@@ -8,7 +8,7 @@ use lib.Seq.{getD-take}
 use Rattle.bits.specs.Packing.{bitsOf, unpack}
 use Rattle.expander.specs.declared.Expander.{Expander}
 use Rattle.group.specs.Modular.{field}
-use Rattle.point.specs.Share.{bitOf}
+use Rattle.point.specs.Evaluation.{bitOf}
 use Rattle.point.specs.PublicShare.{readCorrection}
 use Rattle.point.specs.Instance.{scheme}
 use Rattle.point.proofs.Local.{Below, share-local}

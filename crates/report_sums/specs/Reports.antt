@@ -7,7 +7,7 @@ use lib.Dec.{eqb}
 use Rattle.group.specs.Group.{Group}
 use Rattle.group.specs.Modular.{field}
 use Rattle.expander.specs.declared.Expander.{Expander}
-use Rattle.point.specs.Share.{share}
+use Rattle.point.specs.Evaluation.{share}
 use Rattle.point.specs.PublicShare.{publicShareLength, readCorrection}
 use Rattle.point.specs.Instance.{scheme}
 

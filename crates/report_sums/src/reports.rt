@@ -7,7 +7,7 @@ ghost use mathlib.Core.Bool.{cond};
 ghost use Prim.Native.Nat.{_<_};
 ghost use Rattle.bits.specs.Packing.{bitsOf};
 ghost use Rattle.group.specs.Modular.{field};
-ghost use Rattle.point.specs.Share.{bitOf};
+ghost use Rattle.point.specs.Evaluation.{bitOf};
 ghost use Rattle.report_sums.specs.Reports.{reportCount, counts, lentShare, serverSum};
 
 // A server's sums at two prefixes.

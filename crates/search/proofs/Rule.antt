@@ -12,9 +12,9 @@ use Rattle.expander.specs.declared.Expander.{Expander}
 use Rattle.expander.specs.declared.Choice.{Choice}
 use Rattle.expander.specs.declared.Choice.the-variants.{Known}
 use Rattle.group.specs.Modular.{p}
-use Rattle.point.specs.Share.{bitOf}
+use Rattle.point.specs.Evaluation.{bitOf}
 use Rattle.query.specs.Query.{packs, limit, children}
-use Rattle.tree.specs.Search.{searchRecord, searchList}
+use Rattle.tree.specs.SearchRule.{searchRecord, searchList}
 use Rattle.tree.specs.Cut.{honestRecord, honestList, honestFits}
 use Rattle.tree.proofs.Limit.{fits-within}
 use Rattle.tree.proofs.Agree.{list-agrees, fits-agree, record-agrees}

@@ -14,7 +14,7 @@ use Rattle.expander.specs.declared.Choice.{Choice}
 use Rattle.expander.specs.declared.Choice.the-variants.{Known, Unknown}
 use Rattle.kept.specs.Kept.{reaches}
 use Rattle.query.specs.Query.{packs, limit, children}
-use Rattle.tree.specs.Search.{searchRecord, searchList, searchFits}
+use Rattle.tree.specs.SearchRule.{searchRecord, searchList, searchFits}
 use Rattle.levels.specs.Levels.{totalOf, Ending, endingWith}
 use Rattle.search.specs.declared.Found.{Found}
 use Rattle.report_sums.specs.Checks.{WrongLengths, wrongLengths, PayloadTooLarge, payloadTooLarge, SpareBitsSet, spareBitsSet}

@@ -10,7 +10,7 @@ use Rattle.places.specs.Lists.{All, select}
 use Rattle.bits.specs.Strings.{Bits}
 use Rattle.numbers.specs.Numbers.{little}
 use Rattle.query.specs.Query.{OfLength, query, limit, children}
-use Rattle.tree.specs.Search.{start, totals, level, keptFrom, fitsFrom, recordFrom, heading, isKept, searchRecord, searchList, searchFits}
+use Rattle.tree.specs.SearchRule.{start, totals, level, keptFrom, fitsFrom, recordFrom, heading, isKept, searchRecord, searchList, searchFits}
 use Rattle.places.proofs.Lists.{all-map}
 use Rattle.query.proofs.Children.{children-longer, kept-longer}
 
@@ -20,9 +20,9 @@ module _ (T U : Bits → ℕ) where
   abbrev pub SameAt : Bits → Type 0
   SameAt q = T q ≡ U q
 
-  pub kept-same : (reaches : ℕ → Bool) (qs : List Bits) → All SameAt qs → select (isKept reaches T) qs ≡ select (isKept reaches U) qs
-  kept-same reaches [] a = refl
-  kept-same reaches (q ∷ qs) a = rw (a .0, kept-same reaches qs (a .1))
+  pub kept-same : (enough : ℕ → Bool) (qs : List Bits) → All SameAt qs → select (isKept enough T) qs ≡ select (isKept enough U) qs
+  kept-same enough [] a = refl
+  kept-same enough (q ∷ qs) a = rw (a .0, kept-same enough qs (a .1))
 
   pub totals-same : (qs : List Bits) → All SameAt qs → totals T qs ≡ totals U qs
   totals-same [] a = refl
@@ -34,12 +34,12 @@ module _ (T U : Bits → ℕ) where
 
 -- ---- totals that agree at all prefixes of 1 to n bits
 
-module _ (reaches : ℕ → Bool) (T U : Bits → ℕ) (n : ℕ) (same : (q : Bits) → 0 < length q → length q ≤ n → T q ≡ U q) where
+module _ (enough : ℕ → Bool) (T U : Bits → ℕ) (n : ℕ) (same : (q : Bits) → 0 < length q → length q ≤ n → T q ≡ U q) where
   abbrev K : Bits → Bool
-  K q = reaches (T q)
+  K q = enough (T q)
 
   abbrev L : Bits → Bool
-  L q = reaches (U q)
+  L q = enough (U q)
 
   asked-same : (k : ℕ) (ps : List Bits) → OfLength k ps → k < n → All (SameAt T U) (children ps)
   asked-same k ps a l = all-map (λ q. length q ≡ suc k) (SameAt T U) (λ q e. same q (omega (arith, e)) (omega (arith, e))) (children ps) (children-longer k ps a)
@@ -48,33 +48,33 @@ module _ (reaches : ℕ → Bool) (T U : Bits → ℕ) (n : ℕ) (same : (q : Bi
   kept-from-same zero k ps a l = refl
   kept-from-same (suc m) k ps a l =
       kept-from-same m (suc k) (select K (children ps)) (kept-longer K k ps a) (omega arith)
-      ∙ ap (keptFrom L m) (kept-same T U reaches (children ps) (asked-same k ps a (omega arith)))
+      ∙ ap (keptFrom L m) (kept-same T U enough (children ps) (asked-same k ps a (omega arith)))
 
   fits-from-same : (m k : ℕ) (ps : List Bits) → OfLength k ps → k + m ≤ n → fitsFrom K m ps ≡ fitsFrom L m ps
   fits-from-same zero k ps a l = refl
   fits-from-same (suc m) k ps a l =
       ap (λ (b : Bool). leb (length (children ps)) limit && b)
       (fits-from-same m (suc k) (select K (children ps)) (kept-longer K k ps a) (omega arith)
-      ∙ ap (fitsFrom L m) (kept-same T U reaches (children ps) (asked-same k ps a (omega arith))))
+      ∙ ap (fitsFrom L m) (kept-same T U enough (children ps) (asked-same k ps a (omega arith))))
 
   record-from-same : (m k : ℕ) (ps : List Bits) → OfLength k ps → k + m ≤ n → recordFrom K T m k ps ≡ recordFrom L U m k ps
   record-from-same zero k ps a l = refl
   record-from-same (suc m) k ps a l =
       ap₂ _++_ (level-same T U k (children ps) (asked-same k ps a (omega arith)))
       (record-from-same m (suc k) (select K (children ps)) (kept-longer K k ps a) (omega arith)
-      ∙ ap (recordFrom L U m (suc k)) (kept-same T U reaches (children ps) (asked-same k ps a (omega arith))))
+      ∙ ap (recordFrom L U m (suc k)) (kept-same T U enough (children ps) (asked-same k ps a (omega arith))))
 
   -- The prefixes kept of each length are the same.
-  pub list-agrees : (k : ℕ) → k ≤ n → searchList reaches T k ≡ searchList reaches U k
+  pub list-agrees : (k : ℕ) → k ≤ n → searchList enough T k ≡ searchList enough U k
   unfolding searchList
   list-agrees k l = kept-from-same k 0 start (refl, tt) (omega arith)
 
   -- So is whether every query is within the limit.
-  pub fits-agree : searchFits reaches T n ≡ searchFits reaches U n
+  pub fits-agree : searchFits enough T n ≡ searchFits enough U n
   unfolding searchFits
   fits-agree = fits-from-same n 0 start (refl, tt) (omega arith)
 
   -- So is the record.
-  pub record-agrees : (C : ℕ) → searchRecord reaches T C n ≡ searchRecord reaches U C n
+  pub record-agrees : (C : ℕ) → searchRecord enough T C n ≡ searchRecord enough U C n
   unfolding searchRecord
   record-agrees C = ap (λ (r : List ℕ). heading C ++ r) (record-from-same n 0 start (refl, tt) (omega arith))

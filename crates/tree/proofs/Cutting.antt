@@ -99,27 +99,27 @@ times-trim n K q xs l =
 -- ---- two totals that agree one bit past the kept prefixes are cut in the same places, with the same totals there
 
 abbrev pub Agree : (ℕ → Bool) → ℕ → (Bits → ℕ) → (Bits → ℕ) → Type 0
-Agree reaches n T U = (p : Bits) (b : Bool) → length p < n → Open (λ q. reaches (T q)) p → T (p ▹ b) ≡ U (p ▹ b)
+Agree enough n T U = (p : Bits) (b : Bool) → length p < n → Open (λ q. enough (T q)) p → T (p ▹ b) ≡ U (p ▹ b)
 
-module _ (reaches : ℕ → Bool) where
+module _ (enough : ℕ → Bool) where
   abbrev pub CutTotal : ℕ → (Bits → ℕ) → Bits → ℕ
-  CutTotal n T q = cond (isCut n (λ r. reaches (T r)) q) (T q) 0
+  CutTotal n T q = cond (isCut n (λ r. enough (T r)) q) (T q) 0
 
   leaf : (T U : Bits → ℕ) (q : Bits) → T [] ≡ U [] → cond (isSame q []) (T q) 0 ≡ cond (isSame q []) (U q) 0
   leaf T U [] e = e
   leaf T U (b ∷ q) e = refl
 
-  pub agree-cut : (n : ℕ) (T U : Bits → ℕ) (q : Bits) → (n ≡ zero → T [] ≡ U []) → Agree reaches n T U → CutTotal n T q ≡ CutTotal n U q
+  pub agree-cut : (n : ℕ) (T U : Bits → ℕ) (q : Bits) → (n ≡ zero → T [] ≡ U []) → Agree enough n T U → CutTotal n T q ≡ CutTotal n U q
   agree-cut zero T U [] z a = z refl
   agree-cut zero T U (b ∷ q) z a = refl
   agree-cut (suc n) T U [] z a = refl
-  agree-cut (suc n) T U (b ∷ q) z a = go (reaches (T (b ∷ []))) refl (agree-cut n (λ r. T (b ∷ r)) (λ r. U (b ∷ r)) q (λ _. e₁))
+  agree-cut (suc n) T U (b ∷ q) z a = go (enough (T (b ∷ []))) refl (agree-cut n (λ r. T (b ∷ r)) (λ r. U (b ∷ r)) q (λ _. e₁))
     where
       e₁ : T (b ∷ []) ≡ U (b ∷ [])
       e₁ = a [] b (omega arith) tt
 
-      go : (k : Bool) → reaches (T (b ∷ [])) ≡ k
-          → (Agree reaches n (λ r. T (b ∷ r)) (λ r. U (b ∷ r)) → CutTotal n (λ r. T (b ∷ r)) q ≡ CutTotal n (λ r. U (b ∷ r)) q)
+      go : (k : Bool) → enough (T (b ∷ [])) ≡ k
+          → (Agree enough n (λ r. T (b ∷ r)) (λ r. U (b ∷ r)) → CutTotal n (λ r. T (b ∷ r)) q ≡ CutTotal n (λ r. U (b ∷ r)) q)
           → CutTotal (suc n) T (b ∷ q) ≡ CutTotal (suc n) U (b ∷ q)
-      go true e ih = rw (e, ap reaches (sym e₁) ∙ e) (ih (λ p c l o. a (b ∷ p) c (omega arith) (e, o)))
-      go false e ih = rw (e, ap reaches (sym e₁) ∙ e) (leaf (λ r. T (b ∷ r)) (λ r. U (b ∷ r)) q e₁)
+      go true e ih = rw (e, ap enough (sym e₁) ∙ e) (ih (λ p c l o. a (b ∷ p) c (omega arith) (e, o)))
+      go false e ih = rw (e, ap enough (sym e₁) ∙ e) (leaf (λ r. T (b ∷ r)) (λ r. U (b ∷ r)) q e₁)

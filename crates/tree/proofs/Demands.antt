@@ -11,7 +11,7 @@ use Rattle.places.specs.Lists.{_∈_}
 use Rattle.bits.specs.Strings.{Bits, _▹_, isPrefix, count, Ascending}
 use Rattle.kept.specs.Kept.{reaches}
 use Rattle.query.specs.Query.{OfLength}
-use Rattle.tree.specs.Search.{start, heading, headingLength, searchRecord, searchList}
+use Rattle.tree.specs.SearchRule.{start, heading, headingLength, searchRecord, searchList}
 use Rattle.tree.specs.Cut.{Heavy, honestRecord, honestList, cut, cuts, times, Rearranged}
 use Rattle.places.proofs.Lists.{all-mem}
 use Rattle.tree.proofs.Rearranging.{rearranged-number, rearranged-length, ascending-once}

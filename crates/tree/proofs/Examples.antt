@@ -8,7 +8,7 @@ use lib.ListN.{length}
 use lib.Dec.{leb}
 use Rattle.bits.specs.Strings.{Bits, count}
 use Rattle.query.specs.Query.{children}
-use Rattle.tree.specs.Search.{start, Ended}
+use Rattle.tree.specs.SearchRule.{start, Ended}
 use Rattle.tree.specs.Cut.{cut, cuts, Rearranged}
 use Rattle.tree.specs.Space.{levelLength, spaceFrom, recordSpace, listSpace}
 

@@ -11,7 +11,7 @@ use lib.ListN.{length, length-append}
 use Rattle.places.specs.Lists.{_∈_, All, select}
 use Rattle.bits.specs.Strings.{Bits, _▹_, Ascending}
 use Rattle.query.specs.Query.{OfLength, children}
-use Rattle.tree.specs.Search.{start, keptFrom, isKept, searchList, Ended}
+use Rattle.tree.specs.SearchRule.{start, keptFrom, isKept, searchList, Ended}
 use Rattle.tree.specs.Cut.{prefixes}
 use Rattle.places.proofs.Lists.{all-map, all-mem, all-select, mem-select, all-over-map}
 use Rattle.tree.proofs.Steps.{kept-nothing}
@@ -74,34 +74,34 @@ module _ (keeps : Bits → Bool) where
 
 -- ---- the list
 
-module _ (reaches : ℕ → Bool) (T : Bits → ℕ) (n : ℕ) where
-  pub list-survives : All (Survives (isKept reaches T) n) (searchList reaches T n)
+module _ (enough : ℕ → Bool) (T : Bits → ℕ) (n : ℕ) where
+  pub list-survives : All (Survives (isKept enough T) n) (searchList enough T n)
   unfolding searchList
-  list-survives = rw zero-add at (survives-from (isKept reaches T) n 0 start ((refl, tt), tt))
+  list-survives = rw zero-add at (survives-from (isKept enough T) n 0 start ((refl, tt), tt))
 
   -- The strings of the list have n bits.
-  pub list-length : OfLength n (searchList reaches T n)
-  list-length = all-map (Survives (isKept reaches T) n) _ (λ s v. v .0) (searchList reaches T n) list-survives
+  pub list-length : OfLength n (searchList enough T n)
+  list-length = all-map (Survives (isKept enough T) n) _ (λ s v. v .0) (searchList enough T n) list-survives
 
   -- The list holds the strings of n bits all of whose non-empty prefixes are kept, and no other.
-  pub list-exact : (s : Bits) → (s ∈ searchList reaches T n) ↔ ((length s ≡ n) × All (λ q. reaches (T q) ≡ true) (prefixes s))
+  pub list-exact : (s : Bits) → (s ∈ searchList enough T n) ↔ ((length s ≡ n) × All (λ q. enough (T q) ≡ true) (prefixes s))
   unfolding searchList
   list-exact s =
-      let f = open-prefixes (isKept reaches T) s in (
-        λ i. let v = all-mem (Survives (isKept reaches T) n) list-survives i in (v .0, f .0 (v .1)),
-        λ c. mem-from (isKept reaches T) n start [] (here refl) s (c .0) (f .1 (c .1)),
+      let f = open-prefixes (isKept enough T) s in (
+        λ i. let v = all-mem (Survives (isKept enough T) n) list-survives i in (v .0, f .0 (v .1)),
+        λ c. mem-from (isKept enough T) n start [] (here refl) s (c .0) (f .1 (c .1)),
       )
 
   -- The list is strictly ascending.
-  pub list-ascending : Ascending (searchList reaches T n)
+  pub list-ascending : Ascending (searchList enough T n)
   unfolding searchList
-  list-ascending = ascending-from (isKept reaches T) n start (tt, tt)
+  list-ascending = ascending-from (isKept enough T) n start (tt, tt)
 
   -- A search that ends has an empty list.
-  pub ended-empty : Ended reaches T n → searchList reaches T n ≡ []
+  pub ended-empty : Ended enough T n → searchList enough T n ≡ []
   unfolding searchList
   ended-empty d =
       let e : n ≡ d .0 + (n - d .0) = omega (arith, d .1) in
-      ap (λ m. keptFrom (isKept reaches T) m start) e
-      ∙ kept-add (isKept reaches T) (d .0) (n - d .0) start
-      ∙ rw (d .2) (kept-nothing (isKept reaches T) (n - d .0))
+      ap (λ m. keptFrom (isKept enough T) m start) e
+      ∙ kept-add (isKept enough T) (d .0) (n - d .0) start
+      ∙ rw (d .2) (kept-nothing (isKept enough T) (n - d .0))

@@ -13,7 +13,7 @@ use Rattle.bits.specs.Packing.{packedLength}
 use Rattle.numbers.proofs.Endian.{little-length}
 use Rattle.kept.specs.Kept.{reaches}
 use Rattle.query.specs.Query.{OfLength, packs, query, children}
-use Rattle.tree.specs.Search.{start, totals, level, recordFrom, heading, headingLength, isKept, searchRecord, searchList}
+use Rattle.tree.specs.SearchRule.{start, totals, level, recordFrom, heading, headingLength, isKept, searchRecord, searchList}
 use Rattle.tree.specs.Cut.{honestRecord, honestList}
 use Rattle.tree.specs.Space.{levelLength, spaceFrom, recordSpace, listSpace}
 use Rattle.places.proofs.Lists.{select-length, number-le}

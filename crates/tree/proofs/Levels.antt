@@ -11,7 +11,7 @@ use Rattle.bits.specs.Packing.{pack, unpack}
 use Rattle.places.specs.Places.{putAt}
 use Rattle.query.specs.Query.{packs}
 use Rattle.query.proofs.Pieces.{numbersAt, keptAt}
-use Rattle.tree.specs.Search.{start, totals, keptFrom, fitsFrom, recordFrom, isKept}
+use Rattle.tree.specs.SearchRule.{start, totals, keptFrom, fitsFrom, recordFrom, isKept}
 
 -- ---- one level
 
@@ -61,18 +61,18 @@ Answered bytes strings within place recordArea listArea recordAfter listAfter nu
 -- ---- this level and those below it
 
 -- A search that has written its query for the prefixes qs, of k bits each, and has m levels to go below them.
-module _ (reaches : ℕ → Bool) (T : Bits → ℕ) where
+module _ (enough : ℕ → Bool) (T : Bits → ℕ) where
   -- what the record is yet to get
   abbrev pub recordLeft : ℕ → ℕ → List Bits → List ℕ
-  recordLeft m k qs = totals T qs ++ recordFrom (isKept reaches T) T m k (select (isKept reaches T) qs)
+  recordLeft m k qs = totals T qs ++ recordFrom (isKept enough T) T m k (select (isKept enough T) qs)
 
   -- what the list is to get
   abbrev pub listLeft : ℕ → List Bits → List ℕ
-  listLeft m qs = packs (keptFrom (isKept reaches T) m (select (isKept reaches T) qs))
+  listLeft m qs = packs (keptFrom (isKept enough T) m (select (isKept enough T) qs))
 
   -- whether the queries to come are within the limit
   abbrev pub queriesLeft : ℕ → List Bits → Bool
-  queriesLeft m qs = fitsFrom (isKept reaches T) m (select (isKept reaches T) qs)
+  queriesLeft m qs = fitsFrom (isKept enough T) m (select (isKept enough T) qs)
 
   -- how it ends
   abbrev pub AnsweredBelow : ℕ → ℕ → List Bits → ℕ → List ℕ → List ℕ → List ℕ → List ℕ → ℕ → ℕ → ℕ → Type 0
@@ -81,4 +81,4 @@ module _ (reaches : ℕ → Bool) (T : Bits → ℕ) where
   -- how a whole search for strings of n bits ends
   abbrev pub AnsweredAll : ℕ → List ℕ → List ℕ → List ℕ → List ℕ → ℕ → ℕ → ℕ → Type 0
   AnsweredAll n =
-      Answered (recordFrom (isKept reaches T) T n 0 start) (packs (keptFrom (isKept reaches T) n start)) (fitsFrom (isKept reaches T) n start) 0
+      Answered (recordFrom (isKept enough T) T n 0 start) (packs (keptFrom (isKept enough T) n start)) (fitsFrom (isKept enough T) n start) 0

@@ -11,7 +11,7 @@ use lib.Dec.{leb}
 use Rattle.places.specs.Lists.{select}
 use Rattle.bits.specs.Strings.{Bits}
 use Rattle.query.specs.Query.{limit, children}
-use Rattle.tree.specs.Search.{start, keptFrom, fitsFrom, isKept, searchList, searchFits}
+use Rattle.tree.specs.SearchRule.{start, keptFrom, fitsFrom, isKept, searchList, searchFits}
 use Rattle.places.proofs.Lists.{and-left, and-right}
 
 module _ (keeps : Bits → Bool) where
@@ -33,20 +33,20 @@ module _ (keeps : Bits → Bool) where
       go false f e next = (0, omega arith, leb-false (length (children ps)) limit f)
       go true f e next = let d = next e in (suc (d .0), omega (arith, d .1), d .2)
 
-module _ (reaches : ℕ → Bool) (T : Bits → ℕ) (n : ℕ) where
+module _ (enough : ℕ → Bool) (T : Bits → ℕ) (n : ℕ) where
   -- Where no query passes the limit, each query is within it.
-  pub fits-within : searchFits reaches T n ≡ true → (k : ℕ) → k < n → length (children (searchList reaches T k)) ≤ limit
+  pub fits-within : searchFits enough T n ≡ true → (k : ℕ) → k < n → length (children (searchList enough T k)) ≤ limit
   unfolding searchFits searchList
-  fits-within e k h = fits-at (isKept reaches T) n k start h e
+  fits-within e k h = fits-at (isKept enough T) n k start h e
 
   -- The test fails exactly when some query passes the limit.
-  pub fits-not : (searchFits reaches T n ≡ false) ↔ ((k : ℕ) × (k < n) × (limit < length (children (searchList reaches T k))))
+  pub fits-not : (searchFits enough T n ≡ false) ↔ ((k : ℕ) × (k < n) × (limit < length (children (searchList enough T k))))
   unfolding searchFits searchList
   fits-not = (
-    beyond-from (isKept reaches T) n start,
-    λ d. go (searchFits reaches T n) refl d,
+    beyond-from (isKept enough T) n start,
+    λ d. go (searchFits enough T n) refl d,
   )
     where
-      go : (b : Bool) → searchFits reaches T n ≡ b → (k : ℕ) × (k < n) × (limit < length (children (searchList reaches T k))) → b ≡ false
+      go : (b : Bool) → searchFits enough T n ≡ b → (k : ℕ) × (k < n) × (limit < length (children (searchList enough T k))) → b ≡ false
       go false e d = refl
       go true e d = absurd (omega (arith, d .2, fits-within e (d .0) (d .1)))

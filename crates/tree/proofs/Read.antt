@@ -8,7 +8,7 @@ use Rattle.numbers.specs.Numbers.{little, fromLittle}
 use Rattle.numbers.proofs.Endian.{little-length, fromLittle-little}
 use Rattle.bits.specs.Strings.{Bits}
 use Rattle.query.specs.Query.{parts}
-use Rattle.tree.specs.Search.{totals}
+use Rattle.tree.specs.SearchRule.{totals}
 
 -- the numbers in what begins with totals
 pub totals-read : (T : Bits → ℕ) → ((q : Bits) → T q < 256 ^ 8) → (qs : List Bits) (rest : List ℕ)

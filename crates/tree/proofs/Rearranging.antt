@@ -5,7 +5,7 @@ use mathlib.Core.Path.{_≡_, refl, sym, ap, _∙_}
 use mathlib.Core.Bool.{Bool, true, false, cond}
 use mathlib.Core.List.{List, [], _∷_}
 use lib.ListN.{length}
-use Rattle.places.specs.Lists.{digit, All, number}
+use Rattle.places.specs.Lists.{digit, All, howMany}
 use Rattle.bits.specs.Strings.{Bits, Before, Ascending}
 use Rattle.tree.specs.Cut.{isSame, times, Rearranged}
 
@@ -30,18 +30,18 @@ remove : Bits → List Bits → List Bits
 remove x [] = []
 remove x (y ∷ ys) = cond (isSame x y) ys (y ∷ remove x ys)
 
-number-remove : (f : Bits → Bool) (x : Bits) (ys : List Bits) → 0 < times x ys → number f ys ≡ digit (f x) + number f (remove x ys)
+number-remove : (f : Bits → Bool) (x : Bits) (ys : List Bits) → 0 < times x ys → howMany f ys ≡ digit (f x) + howMany f (remove x ys)
 unfolding remove
 number-remove f x [] h = absurd (omega arith)
 number-remove f x (y ∷ ys) h = go (isSame x y) refl (number-remove f x ys)
   where
-    go : (c : Bool) → isSame x y ≡ c → (0 < times x ys → number f ys ≡ digit (f x) + number f (remove x ys))
-        → digit (f y) + number f ys ≡ digit (f x) + number f (cond (isSame x y) ys (y ∷ remove x ys))
+    go : (c : Bool) → isSame x y ≡ c → (0 < times x ys → howMany f ys ≡ digit (f x) + howMany f (remove x ys))
+        → digit (f y) + howMany f ys ≡ digit (f x) + howMany f (cond (isSame x y) ys (y ∷ remove x ys))
     go true e ih = rw (e, isSame-eq x y e)
     go false e ih = rw e (omega (arith, ih (omega (arith, rw e at h))))
 
 -- a rearrangement has as many strings that pass a test
-pub rearranged-number : (f : Bits → Bool) (xs ys : List Bits) → Rearranged xs ys → number f xs ≡ number f ys
+pub rearranged-number : (f : Bits → Bool) (xs ys : List Bits) → Rearranged xs ys → howMany f xs ≡ howMany f ys
 rearranged-number f [] [] r = refl
 rearranged-number f [] (y ∷ ys) r = absurd (omega (arith, rw isSame-refl at (r y)))
 rearranged-number f (x ∷ xs) ys r =
@@ -49,7 +49,7 @@ rearranged-number f (x ∷ xs) ys r =
     let ih = rearranged-number f xs (remove x ys) (λ s. omega (arith, r s, number-remove (isSame s) x ys h)) in
     omega (arith, ih, number-remove f x ys h)
 
-number-all : (xs : List Bits) → number (λ x. true) xs ≡ length xs
+number-all : (xs : List Bits) → howMany (λ x. true) xs ≡ length xs
 number-all [] = refl
 number-all (x ∷ xs) = omega (arith, number-all xs)
 

@@ -12,7 +12,7 @@ use Rattle.bits.specs.Strings.{Bits, _▹_}
 use Rattle.numbers.specs.Numbers.{little}
 use Rattle.numbers.proofs.Endian.{little-length, little-injective}
 use Rattle.query.specs.Query.{query, children}
-use Rattle.tree.specs.Search.{start, totals, level, keptFrom, recordFrom}
+use Rattle.tree.specs.SearchRule.{start, totals, level, keptFrom, recordFrom}
 use Rattle.places.proofs.Lists.{all-mem, mem-select, all-select}
 use Rattle.query.proofs.Children.{mem-children, all-children}
 use Rattle.tree.proofs.Agree.{SameAt, kept-same, level-same}
@@ -26,12 +26,12 @@ split-at a b r s n h k e = (
   sym (drop-at a r n h) ∙ ap (drop n) e ∙ drop-at b s n k,
 )
 
-module _ (reaches : ℕ → Bool) (T U : Bits → ℕ) where
+module _ (enough : ℕ → Bool) (T U : Bits → ℕ) where
   abbrev K : Bits → Bool
-  K q = reaches (T q)
+  K q = enough (T q)
 
   abbrev L : Bits → Bool
-  L q = reaches (U q)
+  L q = enough (U q)
 
   abbrev Same : Bits → Type 0
   Same = SameAt T U
@@ -46,10 +46,10 @@ module _ (reaches : ℕ → Bool) (T U : Bits → ℕ) where
     record-same (suc m) k ps a =
         let s = all-children Both Same same ps a in
         let o = all-children Both (λ q. K q ≡ true → Both q)
-        (λ p b o h. (open-snoc K p b (o .0) h, open-snoc L p b (o .1) (ap reaches (sym (same p b o)) ∙ h))) ps a in
+        (λ p b o h. (open-snoc K p b (o .0) h, open-snoc L p b (o .1) (ap enough (sym (same p b o)) ∙ h))) ps a in
         ap₂ _++_ (level-same T U k (children ps) s)
         (record-same m (suc k) (select K (children ps)) (all-select Both K (children ps) o)
-        ∙ ap (recordFrom L U m (suc k)) (kept-same T U reaches (children ps) s))
+        ∙ ap (recordFrom L U m (suc k)) (kept-same T U enough (children ps) s))
 
     pub agree→record : (n : ℕ) → recordFrom K T n 0 start ≡ recordFrom L U n 0 start
     agree→record n = record-same n 0 start ((tt, tt), tt)
@@ -79,10 +79,10 @@ module _ (reaches : ℕ → Bool) (T U : Bits → ℕ) where
     record-split (suc m) k ps e p i (c ∷ r) b l o =
         let d = level-split k (children ps) _ _ e in
         rw (← append-assoc p (c ∷ []) r)
-        (record-split m (suc k) (select K (children ps)) (d .1 ∙ ap (recordFrom L U m (suc k)) (sym (kept-same T U reaches (children ps) (d .0))))
+        (record-split m (suc k) (select K (children ps)) (d .1 ∙ ap (recordFrom L U m (suc k)) (sym (kept-same T U enough (children ps) (d .0))))
         (p ▹ c) (mem-select K (mem-children i c) (o .0)) r b (omega arith) (simp append-assoc (o .1)))
 
-    pub record→agree : (n : ℕ) → recordFrom K T n 0 start ≡ recordFrom L U n 0 start → Agree reaches n T U
+    pub record→agree : (n : ℕ) → recordFrom K T n 0 start ≡ recordFrom L U n 0 start → Agree enough n T U
     record→agree n e = record-split n 0 start e [] (here refl)
 
     -- So the prefixes kept after as many levels are the same.
@@ -90,5 +90,5 @@ module _ (reaches : ℕ → Bool) (T U : Bits → ℕ) where
     record→kept zero k ps e = refl
     record→kept (suc m) k ps e =
         let d = level-split k (children ps) _ _ e in
-        let s = kept-same T U reaches (children ps) (d .0) in
+        let s = kept-same T U enough (children ps) (d .0) in
         record→kept m (suc k) (select K (children ps)) (d .1 ∙ ap (recordFrom L U m (suc k)) (sym s)) ∙ ap (keptFrom L m) s

@@ -8,7 +8,7 @@ use mathlib.Core.List.{List, [], _++_, append-assoc, append-nil}
 use Rattle.places.specs.Lists.{select}
 use Rattle.bits.specs.Strings.{Bits}
 use Rattle.query.specs.Query.{children}
-use Rattle.tree.specs.Search.{start, level, keptFrom, fitsFrom, recordFrom, heading, isKept, searchRecord}
+use Rattle.tree.specs.SearchRule.{start, level, keptFrom, fitsFrom, recordFrom, heading, isKept, searchRecord}
 
 one-more : (n k : ℕ) → k < n → n - k ≡ suc (n - suc k)
 one-more n k h = omega arith
@@ -50,9 +50,9 @@ module _ (keeps : Bits → Bool) where
       ∙ sym (append-assoc (level T k (children ps)) before _)
 
 -- A record begins with the first query and its two totals.
-pub record-begins : (reaches : ℕ → Bool) (T : Bits → ℕ) (C n : ℕ) → 1 ≤ n
-    → searchRecord reaches T C n ≡ heading C ++ (level T 0 (children start) ++ recordFrom (isKept reaches T) T (n - 1) 1 (select (isKept reaches T) (children start)))
+pub record-begins : (enough : ℕ → Bool) (T : Bits → ℕ) (C n : ℕ) → 1 ≤ n
+    → searchRecord enough T C n ≡ heading C ++ (level T 0 (children start) ++ recordFrom (isKept enough T) T (n - 1) 1 (select (isKept enough T) (children start)))
 unfolding searchRecord
-record-begins reaches T C n h =
+record-begins enough T C n h =
     let e : n - 0 ≡ n = omega arith in
-    ap (λ r. heading C ++ r) (rw e at (record-step (isKept reaches T) n 0 start h T))
+    ap (λ r. heading C ++ r) (rw e at (record-step (isKept enough T) n 0 start h T))

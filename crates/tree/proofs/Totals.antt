@@ -11,7 +11,7 @@ use lib.Dec.{leb}
 use Rattle.places.specs.Lists.{digit, All, select}
 use Rattle.bits.specs.Strings.{Bits, _▹_, isPrefix, count}
 use Rattle.query.specs.Query.{OfLength, limit, children}
-use Rattle.tree.specs.Search.{start, keptFrom, fitsFrom, searchList, searchFits}
+use Rattle.tree.specs.SearchRule.{start, keptFrom, fitsFrom, searchList, searchFits}
 use Rattle.tree.specs.Cut.{honestList, honestFits}
 use Rattle.places.proofs.Lists.{digit-le, number-le, all-map}
 use Rattle.query.proofs.Children.{children-length}

@@ -5,10 +5,10 @@ use mathlib.Core.Bool.{Bool, true, false, cond, _&&_, Bool·beq}
 use mathlib.Core.List.{List, [], _∷_, map}
 use lib.ListN.{length}
 use lib.Dec.{ltb}
-use Rattle.places.specs.Lists.{number}
+use Rattle.places.specs.Lists.{howMany}
 use Rattle.bits.specs.Strings.{Bits, count}
 use Rattle.kept.specs.Kept.{reaches}
-use Rattle.tree.specs.Search.{searchRecord, searchList, searchFits}
+use Rattle.tree.specs.SearchRule.{searchRecord, searchList, searchFits}
 
 -- ---- honest searches: each of the strings xs is held by one installation, and the total of a prefix is the number of strings that have it;
 -- that honest reports have these totals is shown in `honest` (`honest-total`)
@@ -60,7 +60,7 @@ isSame (b ∷ q) (c ∷ s) = Bool·beq b c && isSame q s
 
 -- how often s stands in the list
 abbrev pub times : Bits → List Bits → ℕ
-times s xs = number (isSame s) xs
+times s xs = howMany (isSame s) xs
 
 -- rearrangements of each other: every string, of whatever length, stands in both equally often
 abbrev pub Rearranged : List Bits → List Bits → Type 0

@@ -1,3 +1,3 @@
-pub mod Search
+pub mod SearchRule
 pub mod Cut
 pub mod Space

@@ -9,7 +9,7 @@ use Rattle.expander.specs.declared.Expander.{Expander}
 use Rattle.group.specs.Modular.{field}
 use Rattle.point.specs.Node.{Node, final, payloadOf}
 use Rattle.point.specs.Correction.{Correction, correctedChild}
-use Rattle.point.specs.Share.{descend, correctedPayload, shareBelow, node, share}
+use Rattle.point.specs.Evaluation.{descend, correctedPayload, shareBelow, node, share}
 use Rattle.point.specs.Instance.{fieldScheme, scheme}
 use Rattle.nodes.proofs.Nodes.{same-node}
 

@@ -8,10 +8,10 @@ ghost use mathlib.Core.Path.{_≡_};
 ghost use mathlib.Core.Bool.{true, false};
 ghost use Rattle.bits.specs.Packing.{bitsOf};
 ghost use Rattle.point.specs.Instance.{scheme};
-ghost use Rattle.point.specs.Share.{bitOf, node, share};
+ghost use Rattle.point.specs.Evaluation.{bitOf, node, share};
 ghost use Rattle.point.specs.PublicShare.{readCorrection};
 ghost use Rattle.point.proofs.Local.{Below};
-ghost use Rattle.nodes.specs.Layout.{nodeOf};
+ghost use Rattle.nodes.specs.NodeLayout.{nodeOf};
 
 // A server's shares at two prefixes.
 pub struct Shares {

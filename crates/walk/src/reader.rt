@@ -4,7 +4,7 @@ use nodes::level_start;
 ghost use mathlib.Core.Path.{_≡_};
 ghost use Prim.Native.Nat.{_+_, _<_};
 ghost use Rattle.point.specs.PublicShare.{readCorrection};
-ghost use Rattle.nodes.specs.Layout.{correctionOf};
+ghost use Rattle.nodes.specs.NodeLayout.{correctionOf};
 
 // A lent public share, its number of levels, and the level that is read next.
 struct ShareReader<'a> {

@@ -9,8 +9,8 @@ ghost use mathlib.Core.Path.{_≡_};
 ghost use mathlib.Core.Bool.{cond};
 ghost use Rattle.point.specs.Instance.{scheme};
 ghost use Rattle.point.specs.Correction.{correctedChild};
-ghost use Rattle.point.specs.Share.{descend, correctedPayload, shareBelow};
-ghost use Rattle.nodes.specs.Layout.{nodeOf, correctionOf};
+ghost use Rattle.point.specs.Evaluation.{descend, correctedPayload, shareBelow};
+ghost use Rattle.nodes.specs.NodeLayout.{nodeOf, correctionOf};
 
 // The bit correction of a side: left for false, right for true.
 fn bit_correction(c: Correction, x: bool) -> bool

@@ -2,7 +2,7 @@
 use mathlib.Core.Path.{_≡_}
 use Prim.Native.Nat.{_-_, _≤_}
 use native.Mathlib.Omega.{arith}
-use Rattle.aes.specs.Layout.{bytesOf}
+use Rattle.aes.specs.StateLayout.{bytesOf}
 use Rattle.aes.proofs.Rounds.{Reached, start, next, last}
 use borrow.Author.Needs.{needs}
 use Rattle.aes.proofs.encrypt_two_with.Statement.{statement}

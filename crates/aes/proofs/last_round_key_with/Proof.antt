@@ -2,7 +2,7 @@
 use mathlib.Core.Path.{_≡_, refl, ap₂, _∙_}
 use Prim.Native.Nat.{_-_, _≤_}
 use native.Mathlib.Omega.{arith}
-use Rattle.aes.specs.Layout.{bytesOf}
+use Rattle.aes.specs.StateLayout.{bytesOf}
 use Rattle.aes.specs.Fips197.{roundKey}
 use Rattle.aes.proofs.Rounds.{next-key}
 use borrow.Author.Needs.{needs}

@@ -8,10 +8,10 @@ use Rattle.exam.proofs.reply.Statement.{statement}
 use Rattle.exam.proofs.reply.Tie as tie
 
 array-share-prefix-out : tie.Need-array-share-prefix-out
-array-share-prefix-out c = let r = c .before .respond in inside _ _ _ _ (ap (λ (x : Exit). x .length) (r .ensures)) (ap (λ (x : Exit). x .space) (r .ensures))
+array-share-prefix-out c = let r = c .before .respond in inside _ _ _ _ (ap (λ (x : Exit). x .length) (r .ensures)) (ap (λ (x : Exit). x .area) (r .ensures))
 
 slice-aggregate-put : tie.Need-slice-aggregate-put
-slice-aggregate-put c = let r = c .before .before .respond in counts _ _ (inside _ _ _ _ (ap (λ (x : Exit). x .length) (r .ensures)) (ap (λ (x : Exit). x .space) (r .ensures))) .1
+slice-aggregate-put c = let r = c .before .before .respond in counts _ _ (inside _ _ _ _ (ap (λ (x : Exit). x .length) (r .ensures)) (ap (λ (x : Exit). x .area) (r .ensures))) .1
 
 pub reply-spec : {M : Type 1} → statement M
 reply-spec =

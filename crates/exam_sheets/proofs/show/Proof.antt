@@ -8,10 +8,10 @@ use Rattle.exam_sheets.proofs.show.Statement.{statement}
 use Rattle.exam_sheets.proofs.show.Tie as tie
 
 array-share-prefix-out : tie.Need-array-share-prefix-out
-array-share-prefix-out c = let r = c .before .before .before .before .answer in inside _ _ _ _ (ap (λ (x : Exit). x .length) (r .ensures)) (ap (λ (x : Exit). x .space) (r .ensures))
+array-share-prefix-out c = let r = c .before .before .before .before .answer in inside _ _ _ _ (ap (λ (x : Exit). x .length) (r .ensures)) (ap (λ (x : Exit). x .area) (r .ensures))
 
 slice-aggregate-write-all-2 : tie.Need-slice-aggregate-write-all-2
-slice-aggregate-write-all-2 c = let r = c .before .before .before .before .before .answer in counts _ _ (inside _ _ _ _ (ap (λ (x : Exit). x .length) (r .ensures)) (ap (λ (x : Exit). x .space) (r .ensures))) .1
+slice-aggregate-write-all-2 c = let r = c .before .before .before .before .before .answer in counts _ _ (inside _ _ _ _ (ap (λ (x : Exit). x .length) (r .ensures)) (ap (λ (x : Exit). x .area) (r .ensures))) .1
 
 pub show-spec : {M : Type 1} → statement M
 show-spec =

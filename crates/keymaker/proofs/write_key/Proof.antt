@@ -5,7 +5,7 @@ use native.Mathlib.Omega.{arith}
 use lib.ListN.{length, length-set}
 use Rattle.places.specs.Places.{putAt}
 use Rattle.point.specs.PublicShare.{levelBytes}
-use Rattle.nodes.specs.Layout.{nodeOf, correctionOf}
+use Rattle.nodes.specs.NodeLayout.{nodeOf, correctionOf}
 use Rattle.keymaker.proofs.KeyMaker.{Standing, standing-start, standing-more, standing-end}
 use borrow.Author.Needs.{needs}
 use Rattle.keymaker.proofs.write_key.Statement.{statement}

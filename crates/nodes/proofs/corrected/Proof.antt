@@ -1,5 +1,5 @@
 -- `nodes::corrected` meets its contract. Assumes nothing.
-use Rattle.nodes.specs.Layout.{nodeOf}
+use Rattle.nodes.specs.NodeLayout.{nodeOf}
 use Rattle.nodes.proofs.Nodes.{left-alone, put-right}
 use borrow.Author.Needs.{needs}
 use Rattle.nodes.proofs.corrected.Statement.{statement}

@@ -6,7 +6,7 @@ use mathlib.Core.Path.{_≡_}
 use mathlib.Core.Logic.{⊎-elim}
 use borrow.Author.Needs.{needs}
 use lib.ListN.{length}
-use Rattle.places.specs.Lists.{number}
+use Rattle.places.specs.Lists.{howMany}
 use Rattle.kept.specs.Kept.{reachesBy}
 use Rattle.combine.specs.Combine.{shareTotals}
 use Rattle.combine.proofs.Numbers.{totalsFrom, number-yes, number-no, number-none}
@@ -16,7 +16,7 @@ use Rattle.combine.proofs.totals.count_kept.Tie as tie
 abbrev Inv-loop : tie.InvT-loop
 Inv-loop rule share0 share1 left₀ place₀ count₀ left place count =
     (place + 8 * left ≤ length share0)
-    × (number (reachesBy rule) (shareTotals share0 share1) ≡ count + number (reachesBy rule) (totalsFrom share0 share1 left place))
+    × (howMany (reachesBy rule) (shareTotals share0 share1) ≡ count + howMany (reachesBy rule) (totalsFrom share0 share1 left place))
     × (8 * (count + left) ≤ length share0)
 
 abbrev μ-loop : tie.MeasureT-loop

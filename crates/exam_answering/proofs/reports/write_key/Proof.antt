@@ -16,7 +16,7 @@ returns c =
     let a = s .args in
     part-put (a .shares .now) (a .at) (publicShareLength (a .n)) (k .public-share-length .result)
     (λ room. keyOutcome (a .n) (a .expander) (a .string .now) (a .seed0 .now) (a .seed1 .now) room .written)
-    (m .make-key .last .1 .1 .1 .1 .1 .0) (k .public-share-length .ensures) (s .pre .0) (s .pre .1) (ap (λ (x : Exit). x .space) (m .make-key .ensures))
+    (m .make-key .last .1 .1 .1 .1 .1 .0) (k .public-share-length .ensures) (s .pre .0) (s .pre .1) (ap (λ (x : Exit). x .area) (m .make-key .ensures))
 
 pub write-key-spec : {M : Type 1} → statement M
 write-key-spec =

@@ -12,7 +12,7 @@ use Rattle.point.specs.PublicShare.{publicShareLength}
 use Rattle.exam_text.specs.Sheet.{Line}
 use Rattle.exam_text.specs.Reader.{lineLength, hasLine, lineAt}
 use Rattle.exam_text.proofs.Placed.{stands-within, linePlace, line-stands}
-use Rattle.exam_answering.proofs.LineKeys.{keyOf, nthLine}
+use Rattle.exam_answering.proofs.LineKeys.{lineKey, nthLine}
 use Rattle.exam_answering.proofs.LineReports.{Areas, areas, Room, room-less, Written, written-none, written-lengths, written-more, written-honest}
 use Rattle.exam_answering.proofs.reports.write_reports.Statement.{statement}
 use Rattle.exam_answering.proofs.reports.write_reports.Tie as tie
@@ -110,7 +110,7 @@ loop-again c =
           (l .loop .i) (is-left i) _ (l .loop .inv .0) _
           (w .write-report .ensures .0 ∙ ap (λ (r : Line). putAt (l .loop .seeds0) (16 * l .loop .i) (r .seed0)) (same-line i))
           (w .write-report .ensures .1 .0 ∙ ap (λ (r : Line). putAt (l .loop .seeds1) (16 * l .loop .i) (r .seed1)) (same-line i))
-          (w .write-report .ensures .1 .1 ∙ ap (λ (r : Line). putAt (l .loop .shares) (publicShareLength (a .n) * l .loop .i) (keyOf (a .n) (a .expander) r)) (same-line i))),
+          (w .write-report .ensures .1 .1 ∙ ap (λ (r : Line). putAt (l .loop .shares) (publicShareLength (a .n) * l .loop .i) (lineKey (a .n) (a .expander) r)) (same-line i))),
       rw (add-one (l .loop .i), suc-mul (l .loop .i) (lineLength (a .n))) (omega (arith, l .loop .inv .1)),
       omega (arith, i .loop-test .taken, l .loop .inv .2),
     )

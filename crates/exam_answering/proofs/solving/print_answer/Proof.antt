@@ -10,7 +10,7 @@ use Rattle.places.specs.Places.{overlay}
 use Rattle.search.specs.Search.{Lent, lent}
 use Rattle.honest.specs.Honest.{Accepted, recordRead, listRead, Honest}
 use Rattle.exam_text.specs.Reader.{sheetOf}
-use Rattle.exam_answering.specs.Answer.{answerText}
+use Rattle.exam_answering.specs.AnswerText.{answerText}
 use Rattle.exam_text.proofs.Records.{Rounds}
 use Rattle.exam_answering.specs.Printing.{printed, roundLength}
 use Rattle.exam_answering.proofs.LineKeys.{stringsOf}

@@ -9,7 +9,7 @@ use lib.Seq.{take-append-seam}
 use Rattle.places.specs.Places.{putAt, overlay}
 use Rattle.places.proofs.Places.{putAt-overlay, overlay-nil}
 use Rattle.exam_text.specs.Reader.{sheetOf}
-use Rattle.exam_answering.specs.Answer.{answerText}
+use Rattle.exam_answering.specs.AnswerText.{answerText}
 use borrow.Author.Needs.{needs}
 use Rattle.exam_answering.proofs.solving.solve.Statement.{statement}
 use Rattle.exam_answering.proofs.solving.solve.Tie as tie

@@ -2,7 +2,7 @@
 use mathlib.Core.Path.{ap₂, _∙_}
 use Rattle.expander.specs.Expander.{xorBytes}
 use Rattle.point.specs.Instance.{scheme}
-use Rattle.nodes.specs.Layout.{nodeOf}
+use Rattle.nodes.specs.NodeLayout.{nodeOf}
 use Rattle.keymaker.proofs.KeyLevel.{seed-made, left-made, right-made, kept-made}
 use borrow.Author.Needs.{needs}
 use Rattle.keymaker.proofs.level.kept_children.Statement.{statement}

@@ -3,7 +3,7 @@ use mathlib.Core.Path.{ap, _∙_}
 use Rattle.point.specs.Node as point
 use Rattle.point.specs.Node.{final, payloadOf}
 use Rattle.point.specs.Instance.{scheme}
-use Rattle.nodes.specs.Layout.{nodeOf}
+use Rattle.nodes.specs.NodeLayout.{nodeOf}
 use Rattle.keymaker.proofs.KeyLevel.{word-made}
 use Rattle.point.specs.Node as point
 use borrow.Author.Needs.{needs}

@@ -3,7 +3,7 @@ use native.Mathlib.Omega.{arith}
 use mathlib.Core.Path.{_∙_}
 use borrow.Author.Needs.{needs}
 use Rattle.kept.specs.Kept.{reachesBy}
-use Rattle.tree.specs.Search.{isKept}
+use Rattle.tree.specs.SearchRule.{isKept}
 use Rattle.places.proofs.Lists.{digit-le}
 use Rattle.levels.specs.Levels.{totalOf}
 use Rattle.levels.proofs.LevelTotals.{put-two, count-two}

@@ -8,7 +8,7 @@ use borrow.Author.Needs.{needs}
 use lib.ListN.{length}
 use Rattle.bits.specs.Strings.{Bits}
 use Rattle.kept.specs.Kept.{reachesBy}
-use Rattle.tree.specs.Search.{isKept}
+use Rattle.tree.specs.SearchRule.{isKept}
 use Rattle.levels.specs.Levels.{totalOf}
 use Rattle.levels.proofs.LevelTotals.{Standing, standing-start, standing-length, standing-end, next-inside, totals-room, standing-more}
 use Rattle.levels.proofs.sums.write_totals.Statement.{statement}

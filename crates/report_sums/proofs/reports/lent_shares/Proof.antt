@@ -5,7 +5,7 @@ use denote.Ref.{now}
 use lib.ListN.{length}
 use borrow.Author.Needs.{needs}
 use Rattle.bits.specs.Packing.{bitsOf}
-use Rattle.point.specs.Share.{bitOf}
+use Rattle.point.specs.Evaluation.{bitOf}
 use Rattle.report_sums.proofs.Lent.{share-inside, lent-part}
 use Rattle.report_sums.proofs.reports.lent_shares.Statement.{statement}
 use Rattle.report_sums.proofs.reports.lent_shares.Tie as tie

@@ -7,7 +7,7 @@ use native.Mathlib.Omega.{arith}
 use borrow.Author.Needs.{needs}
 use Rattle.bits.specs.Packing.{bitsOf}
 use Rattle.group.specs.Modular.{field}
-use Rattle.point.specs.Share.{bitOf}
+use Rattle.point.specs.Evaluation.{bitOf}
 use Rattle.report_sums.specs.Reports.{counts, sumWhere, lentShare, serverSum}
 use Rattle.report_sums.proofs.Lent.{sum-none, sum-more}
 use Rattle.report_sums.proofs.reports.server_sums.Statement.{statement}

@@ -2,7 +2,7 @@
 use native.Mathlib.Omega.{arith}
 use Rattle.point.specs.PublicShare.{readCorrection}
 use Rattle.bits.specs.Packing.{bitsOf}
-use Rattle.point.specs.Share.{bitOf}
+use Rattle.point.specs.Evaluation.{bitOf}
 use Rattle.walk.proofs.Descent.{node-root, node-level}
 use Prim.Native.Nat.{ℕ, _<_}
 use borrow.Fn.Kinds.{In}

@@ -4,7 +4,7 @@ use Prim.Native.Nat.{ℕ, _≤_}
 use native.Mathlib.Omega.{arith}
 use borrow.Author.Needs.{needs}
 use Rattle.bits.specs.Packing.{bitsOf}
-use Rattle.point.specs.Share.{bitOf}
+use Rattle.point.specs.Evaluation.{bitOf}
 use Rattle.walk.proofs.Siblings.{SameFrom, same-none, same-all, same-more, same-not}
 use Rattle.walk.proofs.pairs.same_bits.Statement.{statement}
 use Rattle.walk.proofs.pairs.same_bits.Tie as tie

@@ -2,7 +2,7 @@
 use native.Mathlib.Omega.{arith}
 use borrow.Author.Needs.{needs}
 use Rattle.bits.specs.Packing.{bitsOf}
-use Rattle.point.specs.Share.{bitOf}
+use Rattle.point.specs.Evaluation.{bitOf}
 use Rattle.point.specs.PublicShare.{readCorrection}
 use Rattle.walk.proofs.Descent.{share-root, share-level}
 use Rattle.walk.proofs.pairs.shares_at.Statement.{statement}

@@ -43,7 +43,7 @@ use denote.Triple.Walked.{says, needs, Stays, stay-none, stay-none-slice, walkOf
 use denote.Exit.{yes}
 use denote.Triple.Clauses.{ensured, lasts}
 use Rattle.point.specs.PublicShare.{readCorrection}
-use Rattle.nodes.specs.Layout.{correctionOf}
+use Rattle.nodes.specs.NodeLayout.{correctionOf}
 use Rattle.nodes.specs.declared.Correction.{Correction}
 use Rattle.walk.specs.declared.reader.ShareReader.{ShareReader}
 use Rattle.nodes.proofs.Correction as C

@@ -7,7 +7,7 @@ use Rattle.numbers.specs.Numbers.{fromLittle}
 use Rattle.group.specs.Modular.{p}
 use Rattle.point.specs.Node.{payloadOf}
 use Rattle.point.specs.Instance.{fieldScheme, scheme}
-use Rattle.nodes.specs.Layout.{nodeOf}
+use Rattle.nodes.specs.NodeLayout.{nodeOf}
 use Rattle.walk.proofs.Descent.{payload-on, payload-off}
 use borrow.Author.Needs.{needs}
 use Rattle.walk.proofs.steps.corrected_payload.Statement.{statement}

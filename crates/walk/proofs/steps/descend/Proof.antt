@@ -1,5 +1,5 @@
 -- `walk::steps::descend` meets its contract. Assumes nothing.
-use Rattle.nodes.specs.Layout.{nodeOf, correctionOf}
+use Rattle.nodes.specs.NodeLayout.{nodeOf, correctionOf}
 use Rattle.walk.proofs.Descent.{descend-block}
 use borrow.Author.Needs.{needs}
 use Rattle.walk.proofs.steps.descend.Statement.{statement}

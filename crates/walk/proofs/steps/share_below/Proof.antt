@@ -1,5 +1,5 @@
 -- `walk::steps::share_below` meets its contract. Assumes nothing.
-use Rattle.nodes.specs.Layout.{nodeOf, correctionOf}
+use Rattle.nodes.specs.NodeLayout.{nodeOf, correctionOf}
 use Rattle.walk.proofs.Descent.{below-negated, below-plain}
 use borrow.Author.Needs.{needs}
 use Rattle.walk.proofs.steps.share_below.Statement.{statement}

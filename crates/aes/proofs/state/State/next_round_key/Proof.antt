@@ -1,7 +1,7 @@
 -- `aes::state::State::next_round_key` meets its contract. It makes one word after the other. Assumes nothing.
 use mathlib.Core.Path.{_∙_, ap, ap₂}
 use Rattle.aes.specs.Fips197.{sumWord, subWord}
-use Rattle.aes.specs.Layout.{wordOf}
+use Rattle.aes.specs.StateLayout.{wordOf}
 use Rattle.gf256.proofs.Lists.{join4}
 use borrow.Author.Needs.{needs}
 use Rattle.aes.proofs.state.State.next_round_key.Statement.{statement}

@@ -3,7 +3,7 @@ use mathlib.Core.Path.{_∙_, ap, ap₂}
 use mathlib.Core.List.{List}
 use Prim.Native.Nat.{ℕ}
 use Rattle.aes.specs.Fips197.{sumWord, rotWord}
-use Rattle.aes.specs.Layout.{wordOf}
+use Rattle.aes.specs.StateLayout.{wordOf}
 use Rattle.aes.proofs.Columns.{mixed-word}
 use borrow.Author.Needs.{needs}
 use Rattle.aes.proofs.word.Word.mix_column.Statement.{statement}

@@ -5,7 +5,7 @@ use mathlib.Core.List.{List, [], _∷_, _++_}
 use Rattle.places.specs.Lists.{select}
 use Rattle.bits.specs.Strings.{Bits, count}
 use Rattle.kept.specs.Kept.{reaches}
-use Rattle.tree.specs.Search.{start, isKept}
+use Rattle.tree.specs.SearchRule.{start, isKept}
 use Rattle.query.specs.Query.{children}
 use Rattle.tree.specs.Cut.{honestList}
 use Rattle.exam_text.specs.Sheet.{Sheet, strings}

@@ -2,22 +2,21 @@
 use Prim.Native.Nat.{ℕ, zero, suc, _<_}
 use mathlib.Core.Path.{_≡_}
 use mathlib.Core.Bool.{Bool, true, _&&_}
-use mathlib.Core.List.{List, [], _∷_, _++_}
+use mathlib.Core.List.{List, [], _∷_, _++_, map}
 use lib.ListN.{length}
 use lib.Dec.{leb}
 use Rattle.places.specs.Lists.{select}
 use Rattle.bits.specs.Strings.{Bits}
-use Rattle.numbers.specs.Numbers.{little}
+use Rattle.numbers.specs.Numbers.{inBytes}
 use Rattle.query.specs.Query.{query, children, limit}
 
 -- the empty prefix, from which a search goes down
 abbrev pub start : List Bits
 start = [] ∷ []
 
--- the number that T gives for each prefix, 8 bytes each: its total, or one server's share
+-- the totals of prefixes, 8 bytes each
 abbrev pub totals : (Bits → ℕ) → List Bits → List ℕ
-totals T [] = []
-totals T (q ∷ qs) = little 8 (T q) ++ totals T qs
+totals T qs = inBytes (map T qs)
 
 -- What one level adds to the record: the query for prefixes of k + 1 bits, followed by its totals. Where no prefix is left, nothing is asked.
 abbrev pub level : (Bits → ℕ) → ℕ → List Bits → List ℕ
@@ -49,11 +48,11 @@ heading C = []
 abbrev pub headingLength : ℕ
 headingLength = 0
 
--- A search for strings of n bits with the totals T; `reaches` tells whether a total is at least the threshold.
-module _ (reaches : ℕ → Bool) (T : Bits → ℕ) where
-  -- kept: a prefix whose total reaches the threshold
+-- A search for strings of n bits with the totals T; `enough` tells whether a total is at least the threshold.
+module _ (enough : ℕ → Bool) (T : Bits → ℕ) where
+  -- kept: a prefix whose total enough the threshold
   abbrev pub isKept : Bits → Bool
-  isKept q = reaches (T q)
+  isKept q = enough (T q)
 
   -- the record of a search over C reports
   unfoldable pub searchRecord : ℕ → ℕ → List ℕ

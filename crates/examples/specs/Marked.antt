@@ -24,34 +24,34 @@ use Rattle.exam_text.specs.Sheet.{Sheet, strings, text, Within}
 use Rattle.exam_answering.specs.Exam.{output}
 
 -- A key of the sheet: the number of its expander, its string and its root seeds.
-pub record Key : Type 0 where
+pub record MarkedKey : Type 0 where
   pub expander : ℕ
   pub string : Bits
   pub seed0 : List ℕ
   pub seed1 : List ℕ
 
 -- what the key maker answers
-abbrev pub keyOf : Key → Outcome
-keyOf k = keyOutcome (length (k .string)) (k .expander) (pack (k .string)) (k .seed0) (k .seed1) (publicShareLength (length (k .string)))
+abbrev pub madeOf : MarkedKey → Outcome
+madeOf k = keyOutcome (length (k .string)) (k .expander) (pack (k .string)) (k .seed0) (k .seed1) (publicShareLength (length (k .string)))
 
 -- what server b answers at the prefix q when it is lent its seed and a public share
-abbrev pub answer : Key → List ℕ → Bool → Bits → Outcome
-answer k share b q = shareOutcome (length (k .string)) (k .expander) b (cond b (k .seed1) (k .seed0)) share (query (length q - 1) (q ∷ [])) 8
+abbrev pub replyAt : MarkedKey → List ℕ → Bool → Bits → Outcome
+replyAt k share b q = shareOutcome (length (k .string)) (k .expander) b (cond b (k .seed1) (k .seed0)) share (query (length q - 1) (q ∷ [])) 8
 
 -- the key's public share with x for the payload correction of its first level
-abbrev pub withPayload : Key → ℕ → List ℕ
-withPayload k x = putAt (keyOf k .written) (levelStart (length (k .string)) 0 + 16) (little 8 x)
+abbrev pub withPayload : MarkedKey → ℕ → List ℕ
+withPayload k x = putAt (madeOf k .written) (levelStart (length (k .string)) 0 + 16) (little 8 x)
 
 -- A row of the table.
 pub data Row : Type 0 where
   -- a key, and its public share
-  publicShareOf : Key → List ℕ → Row
+  publicShareOf : MarkedKey → List ℕ → Row
   -- a key, a prefix, and the shares of server 0 and of server 1
-  sharesAt : Key → Bits → ℕ → ℕ → Row
+  sharesAt : MarkedKey → Bits → ℕ → ℕ → Row
   -- a key, a prefix, and the total of both servers
-  totalAt : Key → Bits → ℕ → Row
+  totalAt : MarkedKey → Bits → ℕ → Row
   -- a key, a prefix, a payload correction in place of the first, and the number that both servers return
-  payloadAt : Key → Bits → ℕ → ℕ → Row
+  payloadAt : MarkedKey → Bits → ℕ → ℕ → Row
   -- n, t and strings, and the record and the list that every accepted search of honest reports for them leaves, whatever its seeds and expander
   searchOf : ℕ → ℕ → List Bits → List ℕ → List Bits → Row
   -- n, t and strings, how many bytes the record area has, and the number that every search of honest reports for them returns, where the list area
@@ -64,13 +64,13 @@ pub data Row : Type 0 where
 
 -- what a row says
 abbrev pub Holds : Row → Type 0
-Holds (publicShareOf k bytes) = keyOf k ≡ accepted bytes
+Holds (publicShareOf k bytes) = madeOf k ≡ accepted bytes
 Holds (sharesAt k q x y) =
-    (answer k (keyOf k .written) false q ≡ accepted (little 8 x)) × (answer k (keyOf k .written) true q ≡ accepted (little 8 y))
+    (replyAt k (madeOf k .written) false q ≡ accepted (little 8 x)) × (replyAt k (madeOf k .written) true q ≡ accepted (little 8 y))
 Holds (totalAt k q t) =
-    let server : Bool → Outcome = λ b. answer k (keyOf k .written) b q in
+    let server : Bool → Outcome = λ b. replyAt k (madeOf k .written) b q in
     (server false .number ≡ 0) × (server true .number ≡ 0) × ((fromLittle (server false .written) + fromLittle (server true .written)) % modulus ≡ t)
-Holds (payloadAt k q x number) = (answer k (withPayload k x) false q .number ≡ number) × (answer k (withPayload k x) true q .number ≡ number)
+Holds (payloadAt k q x number) = (replyAt k (withPayload k x) false q .number ≡ number) × (replyAt k (withPayload k x) true q .number ≡ number)
 Holds (searchOf n t xs bytes ss) = (s : Lent) → Honest s xs → s .n ≡ n → thresholdOf s ≡ t → Accepted s → (recordRead s ≡ bytes) × (listRead s ≡ packs ss)
 Holds (numberWith n t xs room number) =
     (s : Lent) → Honest s xs → s .n ≡ n → thresholdOf s ≡ t → isExpander (s .expander) ≡ true → length (s .recordArea) ≡ room → listSpace n t (length xs) ≤ length (s .listArea)
@@ -87,11 +87,11 @@ abbrev pub oneSeed : List ℕ
 oneSeed = 1 ∷ replicate 15 0
 
 -- expander 2, n = 1, string `1`
-abbrev pub keyA : Key
+abbrev pub keyA : MarkedKey
 keyA = record { expander = 2; string = true ∷ []; seed0 = zeroSeed; seed1 = oneSeed }
 
 -- A with both seeds zero
-abbrev pub keyH : Key
+abbrev pub keyH : MarkedKey
 keyH = record { expander = 2; string = true ∷ []; seed0 = zeroSeed; seed1 = zeroSeed }
 
 -- `00`, `01`, `10`, `11`, and `1`
