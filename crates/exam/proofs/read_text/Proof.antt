@@ -12,32 +12,21 @@ Inv-loop text₀ done₀ text done = (length text ≡ length text₀) × (done �
 abbrev μ-loop : tie.MeasureT-loop
 μ-loop text₀ done₀ text done = length text - done
 
--- src/main.rt:33:5
 loop-holds : tie.Need-loop-holds Inv-loop μ-loop
 loop-holds c = (refl, omega arith)
 
--- src/main.rt:34:13
 read-more-requires : tie.Need-read-more-requires Inv-loop μ-loop
 read-more-requires c κs = c .before .before .loop .inv .1
 
--- src/main.rt:36:13
--- src/main.rt:36:13
 returns : tie.Need-returns Inv-loop μ-loop
 returns c = counts _ _ (omega arith)
 
--- src/main.rt:42:13
--- src/main.rt:42:13
 returns-2 : tie.Need-returns-2 Inv-loop μ-loop
 returns-2 c = counts _ _ (omega arith)
 
--- src/main.rt:47:9
--- src/main.rt:33:5
--- src/main.rt:33:5
 loop-again : tie.Need-loop-again Inv-loop μ-loop
 loop-again c = (omega arith, omega arith)
 
--- src/main.rt:29:1
--- src/main.rt:29:1
 returns-3 : tie.Need-returns-3 Inv-loop μ-loop
 returns-3 c = counts _ _ (omega arith)
 
