@@ -11,7 +11,7 @@ use Rattle.bits.proofs.Packed.{pack-unpack}
 use Rattle.query.specs.Query.{packs, parts, prefixLength, prefixCount, packedPrefixes, sparesZero}
 use Rattle.query.specs.Prefix.{part}
 use Rattle.query.proofs.Parts.{part-bytes}
-use Rattle.query.proofs.Pieces as pieces
+use Rattle.kept.proofs.Onward as pieces
 use Rattle.combine.specs.Combine.{passing}
 use Rattle.combine.proofs.Numbers.{totalAt, totalsFrom, totals-step}
 

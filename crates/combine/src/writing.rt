@@ -16,7 +16,7 @@ ghost use Rattle.places.specs.Places.{putAt};
 ghost use Rattle.query.specs.Query.{packs, prefixLength, prefixCount, packedPrefixes, sparesZero};
 ghost use Rattle.query.specs.Prefix.{part};
 ghost use Rattle.query.specs.Written.{fitting};
-ghost use Rattle.query.proofs.Pieces.{onward, onwardBytes};
+ghost use Rattle.kept.proofs.Onward.{onward, onwardBytes};
 ghost use Rattle.combine.specs.Combine.{keptBy};
 
 // The packed prefix of len bits in the w bytes from place `from` on, where `last`, and else both its children, into the places from `at` on if it is

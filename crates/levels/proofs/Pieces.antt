@@ -19,7 +19,8 @@ use Rattle.query.specs.Query.{packs, parts, children}
 use Rattle.query.specs.Prefix.{part}
 use Rattle.query.specs.Written.{bothChildren}
 use Rattle.query.proofs.Parts.{parts-step}
-use Rattle.query.proofs.Pieces.{numbersAt, numbers-step, children-step, list-step}
+use Rattle.query.proofs.Pieces.{numbersAt, numbers-step}
+use Rattle.kept.proofs.Onward.{children-step, list-step}
 use Rattle.tree.proofs.Levels.{reachingAt, Packed}
 
 -- ---- what stands before a place that is written

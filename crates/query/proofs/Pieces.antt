@@ -2,7 +2,7 @@
 use Prim.Native.Nat.{ℕ, zero, suc, _+_, _-_, _*_, _≤_, _<_}
 use native.Mathlib.Omega.{arith}
 use mathlib.Core.Path.{_≡_, refl, sym, ap, _∙_}
-use mathlib.Core.Bool.{Bool, true, false, cond}
+use mathlib.Core.Bool.{Bool, true, false}
 use mathlib.Core.List.{List, [], _∷_, _++_, map, append-assoc}
 use borrow.Author.Tests.{le-leb, lt-leb, leb-true, leb-false}
 use lib.ListN.{length, take, drop, length-append, length-drop, length-map}
@@ -14,8 +14,6 @@ use Rattle.numbers.proofs.Endian.{big-length}
 use Rattle.places.proofs.Places.{window-inside, putAt-nil, putAt-outside, putAt-length, putAt-more, Grown, grown-room, grown-more}
 use Rattle.bits.specs.Strings.{Bits, _▹_}
 use Rattle.bits.specs.Packing.{packedLength, pack, unpack}
-use Rattle.kept.specs.Kept.{kept}
-use Rattle.kept.proofs.Kept.{kept-first}
 use Rattle.query.specs.Query.{packs, query, parts, children}
 use Rattle.query.specs.Prefix.{part}
 use Rattle.query.specs.Written.{fitting, bothChildren}
@@ -129,64 +127,6 @@ pub numbers-step : (m place : ℕ) (d : List ℕ) → 0 < m → place + 8 ≤ le
 numbers-step m place d h room = rw (parts-step 8 m place d h, window-inside 8 place d room)
 
 -- ---- the kept strings
-
-packs-first : (b : Bool) (s : Bits) (ss : List Bits) → packs (cond b (s ∷ ss) ss) ≡ cond b (pack s) [] ++ packs ss
-unfolding packs
-packs-first true s ss = refl
-packs-first false s ss = refl
-
-children-first : (b : Bool) (s : Bits) (ss : List Bits) → packs (children (cond b (s ∷ ss) ss)) ≡ cond b (bothChildren s) [] ++ packs (children ss)
-unfolding packs
-children-first true s ss = sym (append-assoc (pack (s ▹ false)) (pack (s ▹ true)) (packs (children ss)))
-children-first false s ss = refl
-
--- what is written for kept strings: at the last length themselves, and before it both children of each
-abbrev pub onward : Bool → List Bits → List Bits
-onward last ss = cond last ss (children ss)
-
--- the same of one packed string of k bits
-abbrev pub onwardBytes : Bool → ℕ → List ℕ → List ℕ
-onwardBytes last k packed = cond last packed (bothChildren (unpack k packed))
-
--- those of m strings of k bits from a place on that have the numbers xs
-module _ (passes : ℕ → Bool) (k : ℕ) (d : List ℕ) where
-  abbrev pub keptAt : ℕ → ℕ → List ℕ → List Bits
-  keptAt m from xs = kept passes (stringsAt k m from d) xs
-
-  module _ (m from : ℕ) (xs : List ℕ) (h : m ≤ 0) where
-    pub list-none : packs (keptAt m from xs) ≡ []
-    unfolding packs
-    list-none = rw (strings-none k m from d h)
-
-    pub children-none : packs (children (keptAt m from xs)) ≡ []
-    unfolding packs
-    children-none = rw (strings-none k m from d h)
-
-    pub onward-none : (last : Bool) → packs (onward last (keptAt m from xs)) ≡ []
-    onward-none true = list-none
-    onward-none false = children-none
-
-  -- the first of them, whose number is x; b tells whether that passes
-  module _ (w : ℕ) (e : w ≡ packedLength k) (m from : ℕ) (h : 0 < m) (x : ℕ) (xs : List ℕ) (b : Bool) (f : b ≡ passes x) where
-    abbrev first : List ℕ
-    first = take w (drop from d)
-
-    abbrev rest : List Bits
-    rest = keptAt (m - 1) (from + w) xs
-
-    kept-step : keptAt m from (x ∷ xs) ≡ cond b (unpack k first ∷ rest) rest
-    kept-step = rw (strings-step k w e d m from h) (kept-first passes (unpack k first) (stringsAt k (m - 1) (from + w) d) x xs b f)
-
-    pub children-step : packs (children (keptAt m from (x ∷ xs))) ≡ cond b (bothChildren (unpack k first)) [] ++ packs (children rest)
-    children-step = rw kept-step (children-first b (unpack k first) rest)
-
-    pub list-step : from + w ≤ length d → pack (unpack k first) ≡ first → packs (keptAt m from (x ∷ xs)) ≡ cond b (part w from d) [] ++ packs rest
-    list-step room p = rw kept-step (packs-first b (unpack k first) rest ∙ rw (p, part-inside w from d room))
-
-    pub onward-step : (last : Bool) → from + w ≤ length d → pack (unpack k first) ≡ first
-        → packs (onward last (keptAt m from (x ∷ xs))) ≡ cond b (onwardBytes last k (part w from d)) [] ++ packs (onward last rest)
-    onward-step true room p = list-step room p
-    onward-step false room p = children-step ∙ rw (part-inside w from d room)
 
 -- ---- a query: its fields, and after them its prefixes
 

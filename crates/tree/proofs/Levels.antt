@@ -10,7 +10,8 @@ use Rattle.bits.specs.Strings.{Bits}
 use Rattle.bits.specs.Packing.{pack, unpack}
 use Rattle.places.specs.Places.{putAt}
 use Rattle.query.specs.Query.{packs}
-use Rattle.query.proofs.Pieces.{numbersAt, keptAt}
+use Rattle.query.proofs.Pieces.{numbersAt}
+use Rattle.kept.proofs.Onward.{keptAt}
 use Rattle.tree.specs.SearchRule.{start, totals, keptFrom, fitsFrom, recordFrom, isKept}
 
 -- ---- one level

@@ -12,7 +12,8 @@ use Rattle.kept.specs.Kept.{reachesBy}
 use Rattle.query.specs.Query.{packs, parts, sparesZero}
 use Rattle.query.specs.Prefix.{part}
 use Rattle.query.proofs.Parts.{spare-first, spares-rest}
-use Rattle.query.proofs.Pieces.{next-room, grown-fitting, grown-length, onward, onwardBytes, onward-none}
+use Rattle.query.proofs.Pieces.{next-room, grown-fitting, grown-length}
+use Rattle.kept.proofs.Onward.{onward, onwardBytes, onward-none}
 use Rattle.combine.specs.Combine.{keptBy}
 use Rattle.combine.proofs.Pieces.{keptFrom, onward-step, query-room, query-spares, kept-whole}
 use Rattle.combine.proofs.writing.write_kept.Statement.{statement}

@@ -13,7 +13,8 @@ use Rattle.places.specs.Places.{window}
 use Rattle.places.proofs.Places.{Grown, grown-start, grown-end}
 use Rattle.query.specs.Query.{packs, children}
 use Rattle.query.specs.Written.{bothChildren}
-use Rattle.query.proofs.Pieces.{part-length, next-room, numbersAt, children-none, grown-fitting, grown-length}
+use Rattle.query.proofs.Pieces.{part-length, next-room, numbersAt, grown-fitting, grown-length}
+use Rattle.kept.proofs.Onward.{children-none}
 use Rattle.kept.specs.Kept.{reachesBy}
 use Rattle.tree.proofs.Levels.{reachingAt}
 use Rattle.levels.proofs.Pieces.{unpack-padded, children-at, grown-part, grown-window}

@@ -12,7 +12,8 @@ use Rattle.bits.specs.Packing.{packedLength, pack, unpack}
 use Rattle.places.proofs.Places.{Grown, grown-start, grown-end}
 use Rattle.query.specs.Query.{packs, parts}
 use Rattle.query.specs.Prefix as prefix
-use Rattle.query.proofs.Pieces.{next-room, numbersAt, list-none, grown-fitting, grown-length}
+use Rattle.query.proofs.Pieces.{next-room, numbersAt, grown-fitting, grown-length}
+use Rattle.kept.proofs.Onward.{list-none}
 use Rattle.kept.specs.Kept.{reachesBy}
 use Rattle.tree.proofs.Levels.{reachingAt, Packed}
 use Rattle.levels.proofs.Pieces.{packed-step, list-at}
