@@ -4,8 +4,9 @@ use libc::STDIN_FILENO;
 use libc::STDOUT_FILENO;
 ghost use Prim.Native.Nat.{_+_, _≤_};
 ghost use mathlib.Core.Path.{_≡_};
-ghost use lib.ListN.{length};
+ghost use lib.ListN.{length, take};
 ghost use Rattle.io.specs.Counts.{Counts};
+ghost use Rattle.exam_answering.specs.Exam.{output, answerSpace};
 
 // How many bytes were read, and whether a read failed.
 struct Input {
@@ -13,10 +14,11 @@ struct Input {
     failed: bool,
 }
 
-// One read into the places from `done` on.
+// One read into the places from `done` on; the bytes before stay as they are.
 fn read_more(text: &mut [u8], done: usize) -> Input
     requires { ⌜ done ≤ length (now text) ⌝ }
-    ensures { λ r. ⌜ (done + r .length ≤ length (now (text .entry))) × (length (now (text .exit)) ≡ length (now (text .entry))) ⌝ }
+    ensures room { λ r. ⌜ (done + r .length ≤ length (now (text .entry))) × (length (now (text .exit)) ≡ length (now (text .entry))) ⌝ }
+    ensures kept { λ _. ⌜ take done (now (text .exit)) ≡ take done (now (text .entry)) ⌝ }
 {
     let part = &mut text[done..];
     let got = libc::read(STDIN_FILENO, part);
@@ -53,6 +55,15 @@ fn read_text(text: &mut [u8]) -> Input
     }
 }
 
+// The whole output for an exam text at the beginning of `out`, and how many bytes it has.
+fn reply(text: &[u8], out: &mut [u8]) -> usize
+    requires { ⌜ answerSpace ≤ length (now out) ⌝ }
+    ensures { λ r. ⌜ Counts r (now (out .exit)) × (take r (now (out .exit)) ≡ output (now (text .entry))) ⌝ }
+{
+    let reply = exam_answering::respond(text, out);
+    reply.length as usize
+}
+
 // Writes bytes to standard output, or says that this failed.
 fn put(bytes: &[u8]) {
     if !io::write_all(STDOUT_FILENO, bytes) {
@@ -60,19 +71,14 @@ fn put(bytes: &[u8]) {
     }
 }
 
-// Writes the answer to an exam text, or the line of its refusal.
-fn reply(text: &[u8]) {
-    let mut out = io::large_buffer();
-    let reply = exam_answering::respond(text, &mut out);
-    put(&out[..reply.length as usize]);
-}
-
 fn main() {
     let mut text = [0u8; 4097];
+    let mut out = io::large_buffer();
     let input = read_text(&mut text);
     if input.failed {
         io::write_all(STDERR_FILENO, b"exam: standard input cannot be read\n");
         return;
     }
-    reply(&text[..input.length]);
+    let end = reply(&text[..input.length], &mut out);
+    put(&out[..end]);
 }

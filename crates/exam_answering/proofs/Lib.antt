@@ -6,14 +6,11 @@ pub mod Longest
 pub mod Exam
 pub mod ExamTheorems
 pub mod PrintedLines
-pub mod PiecesPut
-pub mod LineKeys
-pub mod LineReports
-pub mod SheetSearch
 pub mod ExamCauses
 pub mod Responding
 pub mod Outputs
 pub mod SameAnswer
+pub mod SheetSearch
 pub mod Searched
 pub mod Queried
 pub mod Inside

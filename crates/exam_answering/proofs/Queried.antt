@@ -14,10 +14,11 @@ use Rattle.bits.specs.Strings.{Bits, _▹_, isPrefix, count}
 use Rattle.kept.specs.Kept.{reaches}
 use Rattle.tree.specs.SearchRule.{start, keptFrom, isKept, searchList}
 use Rattle.query.specs.Query.{children}
-use Rattle.tree.specs.Cut.{Heavy, prefixes}
+use Rattle.tree.specs.Cut.{Heavy, prefixes, cuts}
 use Rattle.places.proofs.Lists.{and-right, all-mem}
 use Rattle.tree.proofs.Prefixes.{prefixes-exact}
 use Rattle.query.proofs.Children.{mem-children, all-children}
+use Rattle.tree.proofs.Cutting.{cuts-trim, count-trim}
 use Rattle.tree.proofs.Kept.{Survives, open-prefixes, list-survives, list-exact}
 use Rattle.exam_answering.specs.AnswerText.{queriedFrom, queried}
 
@@ -116,3 +117,12 @@ module _ (t : ℕ) (xs : List Bits) where
           let m = kept-above (r .0) (r .1) (subst HeavyAbove (r .2) above) in
           asked-queried keeps n start q (length (r .0)) less
           (subst (λ z. z ∈ children (searchList (reaches t) (count xs) (length (r .0)))) (sym (r .2)) (mem-children m (r .1)))
+
+  -- The total of a queried prefix is the number of cut strings that begin with it.
+  pub queried-cut : (n : ℕ) (q : Bits) → q ∈ queried n t xs → count (cuts t xs) q ≡ count xs q
+  queried-cut n q i =
+      let a = queried-exact n q .0 i in
+      let r = last-bit q (a .0) in
+      let kept = kept-above (r .0) (r .1) (subst HeavyAbove (r .2) (a .2)) in
+      let open = open-prefixes keeps (r .0) .1 (list-exact (reaches t) (count xs) (length (r .0)) (r .0) .0 kept .1) in
+      rw (r .2, cuts-trim t xs) (count-trim keeps (r .0) (r .1) xs open)

@@ -1,69 +1,94 @@
--- The search of a sheet's reports: it is accepted, what is printed of it is the sheet's answer, and there is room for that. Assumes nothing.
-use Prim.Native.Nat.{ℕ, _*_, _≤_}
+-- The search of a sheet's own reports: they are honest, it is accepted, and what is printed of it is the sheet's answer. Assumes nothing.
+use Prim.Native.Nat.{ℕ, _*_, _≤_, _<_}
 use native.Mathlib.Nat.{mul-le-mul-left}
 use native.Mathlib.Omega.{arith}
-use mathlib.Core.Path.{_≡_, sym, ap, _∙_}
+use mathlib.Core.Path.{_≡_, refl, sym, ap, ap₂, _∙_}
 use mathlib.Core.Bool.{true}
-use mathlib.Core.List.{List, map}
-use lib.ListN.{length, drop}
+use mathlib.Core.List.{List, []}
+use lib.ListN.{length, getD, replicate, length-map, length-replicate, List·getD-map}
+use Rattle.places.specs.Places.{Bytes}
+use Rattle.bits.specs.Packing.{pack}
 use Rattle.expander.specs.Expander.{isExpander}
-use Rattle.point.specs.PublicShare.{publicShareLength}
+use Rattle.point.specs.PublicShare.{joined, publicShareLength}
+use Rattle.point.proofs.Joined.{joined-at, joined-byte}
+use Rattle.keymaker.specs.Key.{keyOutcome}
+use Rattle.report_sums.specs.Reports.{seedAt}
 use Rattle.search.specs.Search.{Lent}
-use Rattle.honest.specs.Honest.{Accepted, recordRead, listRead, Honest}
-use Rattle.exam_text.specs.Sheet.{Line, strings}
-use Rattle.exam_text.specs.Reader.{areLines, afterFirstLine, isSheet, sheetOf}
-use Rattle.exam_answering.specs.AnswerText.{answerText}
+use Rattle.search.proofs.Outcome.{named-expander}
+use Rattle.honest.specs.Honest.{Accepted, recordRead, Honest, keyAt}
+use Rattle.honest.proofs.Making.{made-honest}
+use Rattle.exam_text.specs.Sheet.{Line, Sheet, strings, expanderNumber, Within}
+use Rattle.exam_text.specs.Reader.{noLine}
 use Rattle.exam_text.proofs.Records.{Rounds}
-use Rattle.exam_answering.specs.Printing.{printed, roundLength}
-use Rattle.exam_text.proofs.ReaderExact.{sheet-within}
-use Rattle.exam_text.proofs.Placed as placed
+use Rattle.exam_reports.specs.SheetReports.{eachLine, publicShareFor, seeds0Of, seeds1Of, publicSharesOf}
+use Rattle.exam_reports.proofs.EachLine.{each-joined}
+use Rattle.exam_reports.proofs.PiecesPut.{joined-same}
+use Rattle.exam_reports.proofs.SheetSizes.{line-sound, seeds0-size, seeds1-size}
+use Rattle.exam_answering.specs.AnswerText.{answerText}
+use Rattle.exam_answering.specs.Printing.{roundLength}
+use Rattle.exam_answering.specs.SheetSearch.{sheetSearch, searchedText, searchText}
 use Rattle.exam_answering.proofs.HonestAnswer.{exam-accepted, answer-printed, answer-read}
-use Rattle.exam_answering.proofs.Longest.{answer-most}
-use Rattle.exam_answering.proofs.LineKeys.{stringsOf, strings-length}
-
--- A text is that of a sheet with these numbers, to which no cause before 11 applies, and its lines begin at place `at`.
-pub record Ready (text : List ℕ) (n t expander count at : ℕ) : Type 0 where
-  pub read : isSheet text ≡ true
-  pub some-bits : 1 ≤ n
-  pub not-longer : n ≤ 32
-  pub some-threshold : 1 ≤ t
-  pub not-higher : t ≤ 65535
-  pub known : isExpander expander ≡ true
-  pub few : count ≤ 32
-  pub same-n : n ≡ sheetOf text .n
-  pub same-t : t ≡ sheetOf text .t
-  pub same-count : count ≡ length (sheetOf text .lines)
-  pub place : drop at text ≡ afterFirstLine text
 
 -- 32 public shares of strings of at most 32 bits take 24,832 bytes
 pub shares-room : (n count w : ℕ) → w ≡ publicShareLength n → n ≤ 32 → count ≤ 32 → w * count ≤ 24832
 shares-room n count w size to few = let most : w * count ≤ w * 32 = mul-le-mul-left w few in omega (arith, most)
 
-module _ (text : List ℕ) (n t expander count at : ℕ) (ready : Ready text n t expander count at) where
-  pub sheet-laid : areLines n count (drop at text) ≡ true
-  sheet-laid = placed.sheet-laid text n count at (ready .same-n) (ready .same-count) (ready .place) (ready .read)
+-- ---- one seed of each line
 
-  sheet-strings : stringsOf n count (drop at text) ≡ strings (sheetOf text)
-  sheet-strings = ap (λ (ls : List Line). map (λ l. l .string) ls) (sym (placed.sheet-lines text n count at (ready .same-n) (ready .same-count) (ready .place)))
+module _ (seed : Line → List ℕ) (ls : List Line) (sized : (i : ℕ) → i < length ls → Bytes 16 (seed (getD ls i noLine))) where
+  each-byte : (i : ℕ) → getD (eachLine seed ls) i 0 < 256
+  each-byte i = rw (each-joined seed ls noLine) (joined-byte (length ls) (λ i. seed (getD ls i noLine)) (λ i h. sized i h .byte) i)
 
-  -- The answer has its room.
-  pub sheet-fits : length (answerText (sheetOf text)) ≤ 43232
-  sheet-fits = answer-most (sheetOf text) (sheet-within text (ready .read) .0) (rw (← ready .same-t) (ready .some-threshold))
+  seed-at : (i : ℕ) → i < length ls → seedAt (eachLine seed ls) i ≡ seed (getD ls i noLine)
+  seed-at i h = rw (each-joined seed ls noLine) (joined-at 16 (λ i. seed (getD ls i noLine)) (length ls) i (λ i h. sized i h .size) h)
 
-  -- A search of honest reports for the sheet's strings.
-  module _ (s : Lent) (honest : Honest s (stringsOf n count (drop at text))) (same-n : s .n ≡ n) (same-t : s .t ≡ t) (same-e : s .expander ≡ expander)
-      (area : length (s .recordArea) ≡ 19374) (list : length (s .listArea) ≡ 128) where
-    sheet-honest : Honest s (strings (sheetOf text))
-    sheet-honest = rw sheet-strings at honest
+-- ---- the search
 
-    pub sheet-accepted : Accepted s
-    sheet-accepted =
-        let number : length (strings (sheetOf text)) ≤ 32 = omega (arith, ready .few, strings-length n count (drop at text), ap length sheet-strings) in
-        exam-accepted s (strings (sheetOf text)) sheet-honest (omega (arith, ready .some-bits)) (omega (arith, ready .not-longer)) (omega (arith, ready .some-threshold))
-        (omega (arith, ready .not-higher)) (rw same-e (ready .known)) number area list
+module _ (s : Sheet) (w : Within s) (from : 1 ≤ s .n) (known : isExpander (expanderNumber (s .expander)) ≡ true) (recordArea listArea : List ℕ) where
+  abbrev search : Lent
+  search = sheetSearch s recordArea listArea
 
-    pub sheet-printed : printed (s .n) (recordRead s) (listRead s) ≡ answerText (sheetOf text)
-    sheet-printed = answer-printed s (sheetOf text) sheet-honest (same-n ∙ ready .same-n) (same-t ∙ ready .same-t) sheet-accepted
+  number : length (strings s) ≡ length (s .lines)
+  number = length-map (s .lines) (λ l. l .string)
 
-    pub sheet-rounds : Rounds roundLength (s .n) (recordRead s)
-    sheet-rounds = answer-read s (sheetOf text) sheet-honest (same-n ∙ ready .same-n) (same-t ∙ ready .same-t) sheet-accepted
+  sized0 : Bytes (16 * length (strings s)) (seeds0Of s)
+  sized0 = rw number (record { size = seeds0-size s w; byte = each-byte (λ l. l .seed0) (s .lines) (λ i h. line-sound s w i h .sized0) })
+
+  sized1 : Bytes (16 * length (strings s)) (seeds1Of s)
+  sized1 = rw number (record { size = seeds1-size s w; byte = each-byte (λ l. l .seed1) (s .lines) (λ i h. line-sound s w i h .sized1) })
+
+  -- the public share of line i is what the key maker writes for report i
+  share-made : (i : ℕ) → i < length (s .lines)
+      → publicShareFor (s .n) (expanderNumber (s .expander)) (getD (s .lines) i noLine) ≡ keyAt search (getD (strings s) i []) i .written
+  share-made i h =
+      let e = expanderNumber (s .expander) in
+      let seed0 = seed-at (λ l. l .seed0) (s .lines) (λ i h. line-sound s w i h .sized0) i h in
+      let seed1 = seed-at (λ l. l .seed1) (s .lines) (λ i h. line-sound s w i h .sized1) i h in
+      ap₂ (λ (a b : List ℕ). keyOutcome (s .n) e (pack (getD (s .lines) i noLine .string)) a b (publicShareLength (s .n)) .written) (sym seed0) (sym seed1)
+      ∙ ap (λ x. keyAt search x i .written) (sym (List·getD-map (λ (l : Line). l .string) (s .lines) i noLine))
+
+  shares-made : publicSharesOf s ≡ joined (length (strings s)) (λ i. keyAt search (getD (strings s) i []) i .written)
+  shares-made =
+      each-joined (publicShareFor (s .n) (expanderNumber (s .expander))) (s .lines) noLine
+      ∙ joined-same (length (s .lines)) (λ i. publicShareFor (s .n) (expanderNumber (s .expander)) (getD (s .lines) i noLine)) _ share-made
+      ∙ ap (λ (m : ℕ). joined m (λ i. keyAt search (getD (strings s) i []) i .written)) (sym number)
+
+  pub sheet-honest : Honest search (strings s)
+  sheet-honest =
+      let named = named-expander (expanderNumber (s .expander)) known in
+      made-honest search (strings s) (w .n-bits) sized0 sized1 (named .0) (named .1) from (omega (arith, w .n-most)) shares-made shares-made
+
+  module _ (least : 1 ≤ s .t) (most : s .t ≤ 65535) (area : length recordArea ≡ 19374) (list : length listArea ≡ 128) where
+    pub sheet-accepted : Accepted search
+    sheet-accepted = exam-accepted search (strings s) sheet-honest from (w .n-most) least most known (omega (arith, number, w .lines-most)) area list
+
+    pub sheet-printed : searchedText s recordArea listArea ≡ answerText s
+    sheet-printed = answer-printed search s sheet-honest refl refl sheet-accepted
+
+    pub sheet-rounds : Rounds roundLength (s .n) (recordRead search)
+    sheet-rounds = answer-read search s sheet-honest refl refl sheet-accepted
+
+-- In the exam's own areas.
+pub search-answer : (s : Sheet) → Within s → 1 ≤ s .n → isExpander (expanderNumber (s .expander)) ≡ true → 1 ≤ s .t → s .t ≤ 65535 → searchText s ≡ answerText s
+search-answer s w from known least most =
+    sheet-printed s w from known (replicate 19374 0) (replicate 128 0) least most (length-replicate {A = ℕ} 19374 0) (length-replicate {A = ℕ} 128 0)

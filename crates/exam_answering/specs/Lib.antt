@@ -1,3 +1,4 @@
 pub mod AnswerText
 pub mod Printing
+pub mod SheetSearch
 pub mod Exam

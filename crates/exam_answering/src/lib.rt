@@ -9,7 +9,6 @@ ghost use Rattle.calls.specs.Outcome.{exit, left};
 ghost use Rattle.exam_answering.specs.Exam.{examExit, respondOutcome};
 
 mod printing;
-mod reports;
 mod solving;
 
 // A refusal with this number.
@@ -39,7 +38,7 @@ pub fn answer(text: &[u8], out: &mut [u8]) -> Reply
     if !expander::is_expander(expander) {
         return refusal(3);
     }
-    solve(text, n, t, expander, sheet.count, sheet.lines, out)
+    solve(text, n, t, expander, sheet.count, out)
 }
 
 // Writes the whole output for an exam text: the answer, or the line of the refusal; refuses with 11 where it does not fit.

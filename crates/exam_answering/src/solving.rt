@@ -1,22 +1,23 @@
 // The search of a sheet, and its answer.
 use crate::printing::print;
-use crate::reports::write_reports;
 use calls::Reply;
+use exam_reports::make_reports;
 use nodes::public_share_length;
 use places::copy;
 ghost use mathlib.Core.Path.{_≡_};
 ghost use mathlib.Core.Bool.{true};
 ghost use Prim.Native.Nat.{_≤_};
-ghost use lib.ListN.{length, drop};
+ghost use lib.ListN.{length};
 ghost use Rattle.places.specs.Places.{overlay};
 ghost use Rattle.exam_lines.specs.Lines.{writtenIn};
 ghost use Rattle.expander.specs.Expander.{isExpander};
 ghost use Rattle.search.specs.Search.{lent};
 ghost use Rattle.honest.specs.Honest.{Accepted, recordRead, listRead};
-ghost use Rattle.exam_text.specs.Reader.{isSheet, sheetOf, afterFirstLine};
-ghost use Rattle.exam_answering.specs.AnswerText.{answerText};
+ghost use Rattle.exam_text.specs.Sheet.{expanderNumber};
+ghost use Rattle.exam_text.specs.Reader.{isSheet, sheetOf};
 ghost use Rattle.exam_text.proofs.Records.{Rounds};
 ghost use Rattle.exam_answering.specs.Printing.{printed, roundLength};
+ghost use Rattle.exam_answering.specs.SheetSearch.{searchedText, searchText};
 
 // Prints the record and the list of a search that is accepted; both servers are lent the same public shares.
 fn search_printed(
@@ -57,15 +58,14 @@ fn search_printed(
     print(n, &area[..record_end], &list[..list_end], out)
 }
 
-// Searches the sheet of a text, whose first line says n, t, the expander and the count of lines and ends before place `at`; and prints its answer
-// from the beginning of `out` on. It is lent the space for 32 reports, for a record and for a list.
+// Makes the reports of the sheet of a text, whose first line says n, t, the expander and the count of lines, searches them, and prints what is found from
+// the beginning of `out` on. It is lent the space for 32 reports, for a record and for a list.
 fn print_answer(
     text: &[u8],
     n: u16,
     t: u64,
     expander: u64,
     count: u16,
-    at: usize,
     seeds0: &mut [u8],
     seeds1: &mut [u8],
     shares: &mut [u8],
@@ -74,14 +74,14 @@ fn print_answer(
     out: &mut [u8],
 ) -> usize
     requires { ⌜ (isSheet (now text) ≡ true) × (1 ≤ n) × (n ≤ 32) × (1 ≤ t) × (t ≤ 65535) × (isExpander expander ≡ true) × (count ≤ 32) ⌝ }
-    requires { ⌜ (n ≡ sheetOf (now text) .n) × (t ≡ sheetOf (now text) .t) × (count ≡ length (sheetOf (now text) .lines)) ×
-        (drop at (now text) ≡ afterFirstLine (now text)) ⌝ }
+    requires { ⌜ (n ≡ sheetOf (now text) .n) × (t ≡ sheetOf (now text) .t) × (expander ≡ expanderNumber (sheetOf (now text) .expander)) ×
+        (count ≡ length (sheetOf (now text) .lines)) ⌝ }
     requires { ⌜ (length (now seeds0) ≡ 512) × (length (now seeds1) ≡ 512) × (length (now shares) ≡ 24832) × (length (now area) ≡ 19374) ×
         (length (now list) ≡ 128) × (length (now out) ≡ 43232) ⌝ }
-    ensures { λ r. ⌜ (r ≡ length (answerText (sheetOf (now (text .entry))))) × (r ≤ 43232) ⌝ }
-    ensures { λ _. ⌜ now (out .exit) ≡ overlay (answerText (sheetOf (now (text .entry)))) (now (out .entry)) ⌝ }
+    ensures { λ r. ⌜ (r ≡ length (searchedText (sheetOf (now (text .entry))) (now (area .entry)) (now (list .entry)))) × (r ≤ 43232) ⌝ }
+    ensures { λ _. ⌜ now (out .exit) ≡ overlay (searchedText (sheetOf (now (text .entry))) (now (area .entry)) (now (list .entry))) (now (out .entry)) ⌝ }
 {
-    write_reports(text, at, n, expander, count, seeds0, seeds1, shares);
+    make_reports(text, seeds0, seeds1, shares);
     let seeds_end = 16 * (count as usize);
     let shares_end = public_share_length(n) * (count as usize);
     search_printed(
@@ -97,22 +97,21 @@ fn print_answer(
     )
 }
 
-// Answers a sheet to which no cause before 11 applies, in space of its own.
+// Answers a sheet to which no cause before 11 applies, in space of its own: what is written is printed of the search of the sheet's own reports.
 pub(crate) fn solve(
     text: &[u8],
     n: u16,
     t: u64,
     expander: u64,
     count: u16,
-    at: usize,
     out: &mut [u8],
 ) -> Reply
     requires { ⌜ (isSheet (now text) ≡ true) × (1 ≤ n) × (n ≤ 32) × (1 ≤ t) × (t ≤ 65535) × (isExpander expander ≡ true) × (count ≤ 32) ⌝ }
-    requires { ⌜ (n ≡ sheetOf (now text) .n) × (t ≡ sheetOf (now text) .t) × (count ≡ length (sheetOf (now text) .lines)) ×
-        (drop at (now text) ≡ afterFirstLine (now text)) ⌝ }
-    ensures { λ r. ⌜ r .number ≡ writtenIn (answerText (sheetOf (now (text .entry)))) (length (now (out .entry))) .number ⌝ }
-    ensures { λ r. ⌜ r .length ≡ length (writtenIn (answerText (sheetOf (now (text .entry)))) (length (now (out .entry))) .written) ⌝ }
-    ensures { λ _. ⌜ now (out .exit) ≡ overlay (writtenIn (answerText (sheetOf (now (text .entry)))) (length (now (out .entry))) .written)
+    requires { ⌜ (n ≡ sheetOf (now text) .n) × (t ≡ sheetOf (now text) .t) × (expander ≡ expanderNumber (sheetOf (now text) .expander)) ×
+        (count ≡ length (sheetOf (now text) .lines)) ⌝ }
+    ensures { λ r. ⌜ r .number ≡ writtenIn (searchText (sheetOf (now (text .entry)))) (length (now (out .entry))) .number ⌝ }
+    ensures { λ r. ⌜ r .length ≡ length (writtenIn (searchText (sheetOf (now (text .entry)))) (length (now (out .entry))) .written) ⌝ }
+    ensures { λ _. ⌜ now (out .exit) ≡ overlay (writtenIn (searchText (sheetOf (now (text .entry)))) (length (now (out .entry))) .written)
         (now (out .entry)) ⌝ }
 {
     let mut seeds0 = [0u8; 512];
@@ -127,7 +126,6 @@ pub(crate) fn solve(
         t,
         expander,
         count,
-        at,
         &mut seeds0,
         &mut seeds1,
         &mut shares,

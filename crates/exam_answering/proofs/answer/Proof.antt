@@ -15,6 +15,7 @@ use Rattle.exam_answering.specs.Exam.{examOutcome}
 use Rattle.exam_text.specs.Reader.{isSheet, sheetOf, SheetSays}
 use Rattle.exam_text.proofs.ReaderExact.{sheet-within}
 use Rattle.exam_answering.proofs.ExamCauses.{no-sheet, no-bits, bad-threshold, no-expander, last-cause, refused-reply}
+use Rattle.exam_answering.proofs.SheetSearch.{search-answer}
 use borrow.Author.Needs.{needs}
 use Rattle.exam_answering.proofs.answer.Statement.{statement}
 use Rattle.exam_answering.proofs.answer.Tie as tie
@@ -114,7 +115,7 @@ solve-requires c κs =
         sym (x .is-expander .ensures) ∙ not-false _ (c .before .if4 .left),
         omega (arith, s .count-read, within e .lines-most),
       ),
-      (s .n-read, s .t-read, s .count-read, s .lines-placed),
+      (s .n-read, s .t-read, s .expander-read, s .count-read),
     )
 
 returns-5 : tie.Need-returns-5
@@ -124,9 +125,10 @@ returns-5 c =
     let g = x .before in
     let f = g .before .before in
     let e = f .before in
-    replied (out e) (examOutcome (text e) (length (out e)))
-    (rw (last-cause (text e) (length (out e)) (read e) (from f) (to f) (inside g) (sym (answered x) ∙ not-false _ (s .before .before .if4 .left)))
-    (s .solve .ensures))
+    let known = sym (answered x) ∙ not-false _ (s .before .before .if4 .left) in
+    let t-in = bounds mostThreshold (sheetOf (text e) .t) (inside g) in
+    let same = search-answer (sheetOf (text e)) (within e) (from f) known (t-in .0) (t-in .1) in
+    replied (out e) (examOutcome (text e) (length (out e))) (rw (last-cause (text e) (length (out e)) (read e) (from f) (to f) (inside g) known, ← same) (s .solve .ensures))
 
 pub answer-spec : {M : Type 1} → statement M
 answer-spec =

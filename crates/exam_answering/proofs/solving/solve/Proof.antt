@@ -9,7 +9,7 @@ use lib.Seq.{take-append-seam}
 use Rattle.places.specs.Places.{putAt, overlay}
 use Rattle.places.proofs.Places.{putAt-overlay, overlay-nil}
 use Rattle.exam_text.specs.Reader.{sheetOf}
-use Rattle.exam_answering.specs.AnswerText.{answerText}
+use Rattle.exam_answering.specs.SheetSearch.{searchText}
 use borrow.Author.Needs.{needs}
 use Rattle.exam_answering.proofs.solving.solve.Statement.{statement}
 use Rattle.exam_answering.proofs.solving.solve.Tie as tie
@@ -20,7 +20,7 @@ abbrev start : tie.After-print-answer → tie.Start
 start p = p .before .before .before .before .before .before .before .before .before
 
 abbrev answer : tie.After-print-answer → List ℕ
-answer p = answerText (sheetOf (start p .args .text .now))
+answer p = searchText (sheetOf (start p .args .text .now))
 
 size-is : (p : tie.After-print-answer) → p .print-answer .result ≡ length (answer p)
 size-is p = p .print-answer .ensures .0 .0

@@ -3,9 +3,8 @@ use Prim.Native.Nat.{ℕ, _≤_, _<_}
 use native.Mathlib.Omega.{arith}
 use mathlib.Core.Path.{_≡_, ap, _∙_}
 use mathlib.Core.Bool.{true}
-use mathlib.Core.List.{List, [], map}
-use lib.ListN.{length, getD, take, drop, length-map, List·getD-map}
-use Rattle.bits.specs.Strings.{Bits}
+use mathlib.Core.List.{List}
+use lib.ListN.{length, take, drop}
 use Rattle.bits.specs.Packing.{packedLength, packIn, pack}
 use Rattle.calls.specs.Outcome.{Outcome}
 use Rattle.expander.specs.Expander.{isExpander}
@@ -14,19 +13,15 @@ use Rattle.keymaker.specs.Key.{keyOutcome}
 use Rattle.search.proofs.Outcome.{named-expander}
 use Rattle.honest.proofs.Keys.{honest-report, key-accepted, key-passes}
 use Rattle.exam_text.specs.Sheet.{Line}
-use Rattle.exam_text.specs.Reader.{areLines, linesOf, noLine, lineAt}
-use Rattle.exam_text.proofs.SheetTests.{lines-count}
+use Rattle.exam_reports.specs.SheetReports.{publicShareFor}
+use Rattle.exam_text.specs.Reader.{areLines, lineAt}
 use Rattle.exam_text.proofs.Values.{packed-four}
-use Rattle.exam_text.proofs.Placed.{Sound, stands-sound, linePlace, line-stands, line-placed}
+use Rattle.exam_text.proofs.Placed.{Sound, stands-sound, linePlace, line-stands}
 
 -- ---- a line
 
--- what the key maker writes for a line
-abbrev pub lineKey : ℕ → ℕ → Line → List ℕ
-lineKey n expander l = keyOutcome n expander (pack (l .string)) (l .seed0) (l .seed1) (publicShareLength n) .written
-
--- For a sound line that is a whole public share.
-pub key-size : (n expander : ℕ) → 1 ≤ n → n ≤ 32 → isExpander expander ≡ true → (l : Line) → Sound n l → length (lineKey n expander l) ≡ publicShareLength n
+-- For a sound line the key maker writes a whole public share.
+pub key-size : (n expander : ℕ) → 1 ≤ n → n ≤ 32 → isExpander expander ≡ true → (l : Line) → Sound n l → length (publicShareFor n expander l) ≡ publicShareLength n
 key-size n expander from to known l sound =
     let named = named-expander expander known in
     let honest = honest-report (sound .bits) (sound .sized0) (sound .sized1) in
@@ -35,25 +30,15 @@ key-size n expander from to known l sound =
 
 -- What the key maker writes for what was read is the key of the line.
 pub key-read : (n expander w : ℕ) (l : Line) (string seed0 seed1 : List ℕ) → n ≤ 32 → Sound n l → w ≡ packedLength n → string ≡ packIn 4 (l .string) → seed0 ≡ l .seed0
-    → seed1 ≡ l .seed1 → keyOutcome n expander (take w string) seed0 seed1 (publicShareLength n) .written ≡ lineKey n expander l
+    → seed1 ≡ l .seed1 → keyOutcome n expander (take w string) seed0 seed1 (publicShareLength n) .written ≡ publicShareFor n expander l
 key-read n expander w l string seed0 seed1 to sound size bits first second = rw (size, bits, packed-four n (l .string) (sound .bits) to, first, second)
 
 -- ---- the lines from a place on
-
--- their strings
-abbrev pub stringsOf : ℕ → ℕ → List ℕ → List Bits
-stringsOf n C cs = map (λ l. l .string) (linesOf n C cs)
-
-pub strings-length : (n C : ℕ) (cs : List ℕ) → length (stringsOf n C cs) ≡ C
-strings-length n C cs = length-map (linesOf n C cs) (λ l. l .string) ∙ lines-count n C cs
 
 -- line i
 abbrev pub nthLine : List ℕ → ℕ → ℕ → ℕ → Line
 nthLine text at n i = lineAt n (linePlace at n i) text
 
 module _ (text : List ℕ) (at n C i : ℕ) (h : i < C) (to : n ≤ 32) (laid : areLines n C (drop at text) ≡ true) where
-  pub string-at : getD (stringsOf n C (drop at text)) i [] ≡ nthLine text at n i .string
-  string-at = List·getD-map (λ (l : Line). l .string) (linesOf n C (drop at text)) i noLine ∙ ap (λ (l : Line). l .string) (line-placed text at n C i h to laid noLine)
-
   pub sound-at : Sound n (nthLine text at n i)
   sound-at = stands-sound n (linePlace at n i) text (line-stands text at n C i h to laid)

@@ -5,17 +5,14 @@ use nodes::public_share_length;
 use places::write16;
 ghost use mathlib.Core.Path.{_≡_};
 ghost use mathlib.Core.Bool.{true};
-ghost use mathlib.Core.List.{List, map};
-ghost use Prim.Native.Nat.{ℕ, _+_, _*_, _≤_};
-ghost use lib.ListN.{length, take, drop};
-ghost use Rattle.bits.specs.Packing.{pack};
-ghost use Rattle.places.specs.Places.{putAt};
+ghost use Prim.Native.Nat.{_+_, _*_, _≤_};
+ghost use lib.ListN.{length, drop};
+ghost use Rattle.places.specs.Places.{putAt, overlay};
 ghost use Rattle.expander.specs.Expander.{isExpander};
 ghost use Rattle.point.specs.PublicShare.{publicShareLength};
 ghost use Rattle.keymaker.specs.Key.{keyOutcome};
-ghost use Rattle.search.specs.Search.{lent};
-ghost use Rattle.honest.specs.Honest.{Honest};
 ghost use Rattle.exam_text.specs.Reader.{areLines, linesOf, hasLine, lineAt};
+ghost use Rattle.exam_reports.specs.SheetReports.{eachLine, publicShareFor};
 
 // The public share of a packed string of n bits into the places from `at` on.
 fn write_key(
@@ -59,9 +56,7 @@ fn write_report(
         (publicShareLength n * i + publicShareLength n ≤ length (now shares)) ⌝ }
     ensures { λ _. ⌜ now (seeds0 .exit) ≡ putAt (now (seeds0 .entry)) (16 * i) (lineAt n at (now (text .entry)) .seed0) ⌝ }
     ensures { λ _. ⌜ now (seeds1 .exit) ≡ putAt (now (seeds1 .entry)) (16 * i) (lineAt n at (now (text .entry)) .seed1) ⌝ }
-    ensures { λ _. ⌜ now (shares .exit) ≡ putAt (now (shares .entry)) (publicShareLength n * i)
-        (keyOutcome n expander (pack (lineAt n at (now (text .entry)) .string)) (lineAt n at (now (text .entry)) .seed0)
-        (lineAt n at (now (text .entry)) .seed1) (publicShareLength n) .written) ⌝ }
+    ensures { λ _. ⌜ now (shares .exit) ≡ putAt (now (shares .entry)) (publicShareLength n * i) (publicShareFor n expander (lineAt n at (now (text .entry)))) ⌝ }
 {
     let line = read_line(text, at, n);
     let string = line.string;
@@ -81,7 +76,7 @@ fn write_report(
     );
 }
 
-// The reports of `count` lines, the first of which begins at place `at` of the text: what is written is honest.
+// The reports of `count` lines, the first of which begins at place `at` of the text, into the beginnings of the areas.
 pub(crate) fn write_reports(
     text: &[u8],
     at: usize,
@@ -94,10 +89,10 @@ pub(crate) fn write_reports(
 )
     requires { ⌜ (1 ≤ n) × (n ≤ 32) × (isExpander expander ≡ true) × (areLines n count (drop at (now text)) ≡ true) ⌝ }
     requires { ⌜ (16 * count ≤ length (now seeds0)) × (16 * count ≤ length (now seeds1)) × (publicShareLength n * count ≤ length (now shares)) ⌝ }
-    ensures { λ _. ⌜ ((t : ℕ) → (recordArea listArea : List ℕ) → Honest (lent n t expander (take (16 * count) (now (seeds0 .exit)))
-        (take (publicShareLength n * count) (now (shares .exit))) (take (16 * count) (now (seeds1 .exit)))
-        (take (publicShareLength n * count) (now (shares .exit))) recordArea listArea) (map (λ l. l .string)
-        (linesOf n count (drop at (now (text .entry)))))) ⌝ }
+    ensures { λ _. ⌜ now (seeds0 .exit) ≡ overlay (eachLine (λ l. l .seed0) (linesOf n count (drop at (now (text .entry))))) (now (seeds0 .entry)) ⌝ }
+    ensures { λ _. ⌜ now (seeds1 .exit) ≡ overlay (eachLine (λ l. l .seed1) (linesOf n count (drop at (now (text .entry))))) (now (seeds1 .entry)) ⌝ }
+    ensures { λ _. ⌜ now (shares .exit) ≡ overlay (eachLine (publicShareFor n expander) (linesOf n count (drop at (now (text .entry)))))
+        (now (shares .entry)) ⌝ }
 {
     let size = n as usize + 67;
     let mut here = at;

@@ -1,4 +1,4 @@
--- `exam_answering::reports::write_reports` meets its contract. The loop's invariant: the reports of the lines passed are written, and the next
+-- `exam_reports::reports::write_reports` meets its contract. The loop's invariant: the reports of the lines passed are written, and the next
 -- line begins here. The measure is how many are left. Assumes nothing.
 use mathlib.Core.Path.{_≡_, ap, _∙_}
 use mathlib.Core.Bool.{true}
@@ -12,10 +12,11 @@ use Rattle.point.specs.PublicShare.{publicShareLength}
 use Rattle.exam_text.specs.Sheet.{Line}
 use Rattle.exam_text.specs.Reader.{lineLength, hasLine, lineAt}
 use Rattle.exam_text.proofs.Placed.{stands-within, linePlace, line-stands}
-use Rattle.exam_answering.proofs.LineKeys.{lineKey, nthLine}
-use Rattle.exam_answering.proofs.LineReports.{Areas, areas, Room, room-less, Written, written-none, written-lengths, written-more, written-honest}
-use Rattle.exam_answering.proofs.reports.write_reports.Statement.{statement}
-use Rattle.exam_answering.proofs.reports.write_reports.Tie as tie
+use Rattle.exam_reports.specs.SheetReports.{publicShareFor}
+use Rattle.exam_reports.proofs.LineKeys.{nthLine}
+use Rattle.exam_reports.proofs.LineReports.{Areas, areas, Room, room-less, Written, written-none, written-lengths, written-more, written-all}
+use Rattle.exam_reports.proofs.reports.write_reports.Statement.{statement}
+use Rattle.exam_reports.proofs.reports.write_reports.Tie as tie
 
 abbrev Inv-loop : tie.InvT-loop
 Inv-loop text at n expander count seeds0₀ seeds1₀ shares₀ size here₀ i₀ left₀ seeds0 seeds1 shares here i left =
@@ -110,7 +111,7 @@ loop-again c =
           (l .loop .i) (is-left i) _ (l .loop .inv .0) _
           (w .write-report .ensures .0 ∙ ap (λ (r : Line). putAt (l .loop .seeds0) (16 * l .loop .i) (r .seed0)) (same-line i))
           (w .write-report .ensures .1 .0 ∙ ap (λ (r : Line). putAt (l .loop .seeds1) (16 * l .loop .i) (r .seed1)) (same-line i))
-          (w .write-report .ensures .1 .1 ∙ ap (λ (r : Line). putAt (l .loop .shares) (publicShareLength (a .n) * l .loop .i) (lineKey (a .n) (a .expander) r)) (same-line i))),
+          (w .write-report .ensures .1 .1 ∙ ap (λ (r : Line). putAt (l .loop .shares) (publicShareLength (a .n) * l .loop .i) (publicShareFor (a .n) (a .expander) r)) (same-line i))),
       rw (add-one (l .loop .i), suc-mul (l .loop .i) (lineLength (a .n))) (omega (arith, l .loop .inv .1)),
       omega (arith, i .loop-test .taken, l .loop .inv .2),
     )
@@ -130,7 +131,7 @@ returns c =
     let s = start l in
     let a = s .args in
     let all : l .loop .i ≡ a .count = omega (arith, c .loop-test .left, l .loop .inv .2) in
-    written-honest (a .n) (a .expander) (s .pre .0 .0) (s .pre .0 .1) (s .pre .0 .2) (a .text .now) (a .at) (a .count) (s .pre .0 .3) (old l) (room l)
+    written-all (a .n) (a .expander) (s .pre .0 .0) (s .pre .0 .1) (s .pre .0 .2) (a .text .now) (a .at) (a .count) (s .pre .0 .3) (old l) (room l)
     _ (rw all at (l .loop .inv .0))
 
 pub write-reports-spec : {M : Type 1} → statement M

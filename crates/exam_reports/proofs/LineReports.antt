@@ -1,28 +1,24 @@
--- The reports of a sheet's lines: root seeds and public shares written line by line are honest. Assumes nothing.
+-- The reports of a sheet's lines: root seeds and public shares, written line by line. Assumes nothing.
 use Prim.Native.Nat.{ℕ, suc, _*_, _≤_, _<_}
 use native.Mathlib.Nat.{mul-le-mul-left, le-trans}
 use native.Mathlib.Omega.{arith}
-use mathlib.Core.Path.{_≡_, sym, ap, ap₂, _∙_}
+use mathlib.Core.Path.{_≡_, sym, ap, _∙_}
 use mathlib.Core.Bool.{true}
-use mathlib.Core.List.{List, []}
-use lib.ListN.{length, getD, take, drop}
-use Rattle.bits.specs.Strings.{Bits}
-use Rattle.places.specs.Places.{Bytes, putAt}
-use Rattle.bits.specs.Packing.{pack}
-use Rattle.places.proofs.Places.{putAt-nil, putAt-length}
+use mathlib.Core.List.{List}
+use lib.ListN.{length, getD, drop}
+use Rattle.places.specs.Places.{putAt, overlay}
+use Rattle.places.proofs.Places.{putAt-nil, putAt-length, putAt-overlay}
 use Rattle.expander.specs.Expander.{isExpander}
 use Rattle.point.specs.PublicShare.{joined, publicShareLength}
-use Rattle.point.proofs.Joined.{joined-length, joined-at, joined-byte}
-use Rattle.keymaker.specs.Key.{keyOutcome}
-use Rattle.report_sums.specs.Reports.{seedAt}
-use Rattle.search.specs.Search.{Lent, lent}
-use Rattle.search.proofs.Outcome.{named-expander}
-use Rattle.honest.specs.Honest.{keyAt, Honest}
-use Rattle.honest.proofs.Making.{made-honest}
-use Rattle.exam_text.specs.Reader.{areLines}
-use Rattle.exam_text.proofs.LinesText.{lines-read}
-use Rattle.exam_answering.proofs.LineKeys.{lineKey, key-size, nthLine, stringsOf, strings-length, string-at, sound-at}
-use Rattle.exam_answering.proofs.PiecesPut.{joined-same, put-next, put-read}
+use Rattle.point.proofs.Joined.{joined-length}
+use Rattle.exam_text.specs.Sheet.{Line}
+use Rattle.exam_text.specs.Reader.{areLines, linesOf, noLine}
+use Rattle.exam_text.proofs.SheetTests.{lines-count}
+use Rattle.exam_text.proofs.Placed.{line-placed}
+use Rattle.exam_reports.specs.SheetReports.{eachLine, publicShareFor}
+use Rattle.exam_reports.proofs.EachLine.{each-joined}
+use Rattle.exam_reports.proofs.LineKeys.{key-size, nthLine, sound-at}
+use Rattle.exam_reports.proofs.PiecesPut.{joined-same, put-next}
 
 -- Where the reports are written: both servers' root seeds, and the public shares.
 pub record Areas : Type 0 where
@@ -51,7 +47,7 @@ room-less n i C old h room = record {
 pub record Written (n expander : ℕ) (text : List ℕ) (at i : ℕ) (old new : Areas) : Type 0 where
   pub seeds0 : new .seeds0 ≡ putAt (old .seeds0) 0 (joined i (λ j. nthLine text at n j .seed0))
   pub seeds1 : new .seeds1 ≡ putAt (old .seeds1) 0 (joined i (λ j. nthLine text at n j .seed1))
-  pub shares : new .shares ≡ putAt (old .shares) 0 (joined i (λ j. lineKey n expander (nthLine text at n j)))
+  pub shares : new .shares ≡ putAt (old .shares) 0 (joined i (λ j. publicShareFor n expander (nthLine text at n j)))
 
 pub written-none : (n expander : ℕ) (text : List ℕ) (at : ℕ) (old : Areas) → Written n expander text at 0 old old
 unfolding joined
@@ -80,7 +76,7 @@ module _ (n expander : ℕ) (from : 1 ≤ n) (to : n ≤ 32) (known : isExpander
   second j = nthLine text at n j .seed1
 
   abbrev key : ℕ → List ℕ
-  key j = lineKey n expander (nthLine text at n j)
+  key j = publicShareFor n expander (nthLine text at n j)
 
   first-size : (j : ℕ) → j < C → length (first j) ≡ 16
   first-size j l = sound-at text at n C j l to laid .sized0 .size
@@ -103,51 +99,31 @@ module _ (n expander : ℕ) (from : 1 ≤ n) (to : n ≤ 32) (known : isExpander
         shares = put-next (publicShareLength n) i key _ _ _ (λ j l. key-length j (omega arith)) (fits .shares) (written .shares) put;
       }
 
-  -- What was written for all lines is honest.
-  module _ (new : Areas) (written : Written n expander text at C old new) (t : ℕ) (recordArea listArea : List ℕ) where
-    abbrev strings : List Bits
-    strings = stringsOf n C (drop at text)
+  -- What was written for all lines.
+  module _ (new : Areas) (written : Written n expander text at C old new) where
+    abbrev lines : List Line
+    lines = linesOf n C (drop at text)
 
-    -- the search of it
-    abbrev pub reported : Lent
-    reported =
-        let shares = take (publicShareLength n * C) (new .shares) in
-        lent n t expander (take (16 * C) (new .seeds0)) shares (take (16 * C) (new .seeds1)) shares recordArea listArea
+    each : (f : Line → List ℕ) → joined C (λ j. f (nthLine text at n j)) ≡ eachLine f lines
+    each f =
+        joined-same C (λ j. f (nthLine text at n j)) (λ j. f (getD lines j noLine)) (λ j l. ap f (sym (line-placed text at n C j l to laid noLine)))
+        ∙ ap (λ (m : ℕ). joined m (λ j. f (getD lines j noLine))) (sym (lines-count n C (drop at text)))
+        ∙ sym (each-joined f lines noLine)
 
-    read0 : reported .seeds0 ≡ joined C first
-    read0 = put-read 16 C first (old .seeds0) (new .seeds0) first-size (room .seeds0) (written .seeds0)
+    all-put : (w : ℕ) (f : Line → List ℕ) (area area′ : List ℕ) → ((j : ℕ) → j < C → length (f (nthLine text at n j)) ≡ w) → w * C ≤ length area
+        → area′ ≡ putAt area 0 (joined C (λ j. f (nthLine text at n j))) → area′ ≡ overlay (eachLine f lines) area
+    all-put w f area area′ sized fits is =
+        let all = joined C (λ j. f (nthLine text at n j)) in
+        is
+        ∙ putAt-overlay area all (omega (arith, joined-length w (λ j. f (nthLine text at n j)) C sized, fits))
+        ∙ ap (λ (bytes : List ℕ). overlay bytes area) (each f)
 
-    read1 : reported .seeds1 ≡ joined C second
-    read1 = put-read 16 C second (old .seeds1) (new .seeds1) second-size (room .seeds1) (written .seeds1)
-
-    sized0 : Bytes (16 * length strings) (reported .seeds0)
-    sized0 =
-        rw (strings-length n C (drop at text), read0)
-        (record { size = joined-length 16 first C first-size; byte = joined-byte C first (λ j l. sound-at text at n C j l to laid .sized0 .byte) })
-
-    sized1 : Bytes (16 * length strings) (reported .seeds1)
-    sized1 =
-        rw (strings-length n C (drop at text), read1)
-        (record { size = joined-length 16 second C second-size; byte = joined-byte C second (λ j l. sound-at text at n C j l to laid .sized1 .byte) })
-
-    -- what the key maker writes for report j
-    abbrev made : ℕ → List ℕ
-    made j = keyAt reported (getD strings j []) j .written
-
-    key-made : (j : ℕ) → j < C → key j ≡ made j
-    key-made j l =
-        let seed0 : seedAt (reported .seeds0) j ≡ first j = rw read0 (joined-at 16 first C j first-size l) in
-        let seed1 : seedAt (reported .seeds1) j ≡ second j = rw read1 (joined-at 16 second C j second-size l) in
-        ap₂ (λ (a b : List ℕ). keyOutcome n expander (pack (nthLine text at n j .string)) a b (publicShareLength n) .written) (sym seed0) (sym seed1)
-        ∙ ap (λ (x : Bits). keyAt reported x j .written) (sym (string-at text at n C j l to laid))
-
-    keys-made : reported .shares0 ≡ joined (length strings) made
-    keys-made =
-        put-read (publicShareLength n) C key (old .shares) (new .shares) key-length (room .shares) (written .shares)
-        ∙ joined-same C key made key-made
-        ∙ ap (λ (m : ℕ). joined m made) (sym (strings-length n C (drop at text)))
-
-    pub written-honest : Honest reported strings
-    written-honest =
-        let named = named-expander expander known in
-        made-honest reported strings (lines-read n C (drop at text) laid .strings) sized0 sized1 (named .0) (named .1) from (omega arith) keys-made keys-made
+    pub written-all : (new .seeds0 ≡ overlay (eachLine (λ l. l .seed0) lines) (old .seeds0))
+        × ((new .seeds1 ≡ overlay (eachLine (λ l. l .seed1) lines) (old .seeds1)) × (new .shares ≡ overlay (eachLine (publicShareFor n expander) lines) (old .shares)))
+    written-all = (
+      all-put 16 (λ l. l .seed0) (old .seeds0) (new .seeds0) first-size (room .seeds0) (written .seeds0),
+      (
+        all-put 16 (λ l. l .seed1) (old .seeds1) (new .seeds1) second-size (room .seeds1) (written .seeds1),
+        all-put (publicShareLength n) (publicShareFor n expander) (old .shares) (new .shares) key-length (room .shares) (written .shares),
+      ),
+    )

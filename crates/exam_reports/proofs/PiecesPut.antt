@@ -5,9 +5,9 @@ use native.Mathlib.Omega.{arith}
 use mathlib.Core.Path.{_≡_, refl, sym, ap, ap₂, _∙_}
 use mathlib.Core.List.{List, [], _++_, append-assoc, append-nil}
 use lib.ListN.{length, take, drop, length-drop, drop-of-length-le}
-use lib.Seq.{take-at, drop-drop, length-take-le}
+use lib.Seq.{drop-drop, length-take-le}
 use Rattle.places.specs.Places.{putAt, overlay}
-use Rattle.places.proofs.Places.{putAt-inside, putAt-more, putAt-overlay}
+use Rattle.places.proofs.Places.{putAt-inside, putAt-more}
 use Rattle.point.specs.PublicShare.{joined}
 use Rattle.point.proofs.Joined.{joined-length}
 
@@ -27,14 +27,6 @@ put-next w i f area₀ area area′ sized room before after =
     after
     ∙ ap₂ (λ (a : List ℕ) (k : ℕ). putAt a k (f i)) before (sym done ∙ sym (zero-add (length (joined i f))))
     ∙ putAt-more area₀ 0 (joined i f) (f i) fits
-
--- what was put at the beginning is read there
-pub put-read : (w n : ℕ) (f : ℕ → List ℕ) (area₀ area : List ℕ) → ((j : ℕ) → j < n → length (f j) ≡ w) → w * n ≤ length area₀
-    → area ≡ putAt area₀ 0 (joined n f) → take (w * n) area ≡ joined n f
-unfolding overlay
-put-read w n f area₀ area sized room is =
-    let done : length (joined n f) ≡ w * n = joined-length w f n sized in
-    ap (take (w * n)) (is ∙ putAt-overlay area₀ (joined n f) (omega arith)) ∙ take-at (joined n f) _ (w * n) done
 
 -- what is written into the whole of a part, which is lent from place `at` on for w places, is put there
 pub part-put : (l : List ℕ) (at w k : ℕ) (written : ℕ → List ℕ) (part : List ℕ) → k ≡ w → at + w ≤ length l → length (written w) ≡ w

@@ -1,4 +1,4 @@
--- `exam_answering::reports::write_report` meets its contract: the key of what was read is that of the line. Assumes nothing.
+-- `exam_reports::reports::write_report` meets its contract: the key of what was read is that of the line. Assumes nothing.
 use mathlib.Core.Path.{_≡_, sym, ap, ap₂, _∙_}
 use Prim.Native.Nat.{ℕ, _*_}
 use native.Mathlib.Omega.{arith}
@@ -11,10 +11,11 @@ use Rattle.exam_text.specs.Sheet.{Line}
 use Rattle.exam_text.specs.Reader.{lineAt}
 use Rattle.exam_text.proofs.Values.{four-length}
 use Rattle.exam_text.proofs.Placed.{Sound, stands-sound}
-use Rattle.exam_answering.proofs.LineKeys.{lineKey, key-size, key-read}
+use Rattle.exam_reports.specs.SheetReports.{publicShareFor}
+use Rattle.exam_reports.proofs.LineKeys.{key-size, key-read}
 use borrow.Author.Needs.{needs}
-use Rattle.exam_answering.proofs.reports.write_report.Statement.{statement}
-use Rattle.exam_answering.proofs.reports.write_report.Tie as tie
+use Rattle.exam_reports.proofs.reports.write_report.Statement.{statement}
+use Rattle.exam_reports.proofs.reports.write_report.Tie as tie
 
 -- ---- what was read
 
@@ -36,7 +37,7 @@ sound k = let a = start k .args in stands-sound (a .n) (a .at) (a .text .now) (s
 -- the key of what was read is that of the line
 made : (k : tie.After-public-share-length) → let r = read k .read-line .result in let a = start k .args in
     keyOutcome (a .n) (a .expander) (take (packed k .packed-length .result) (r .string)) (r .seed0) (r .seed1) (publicShareLength (a .n)) .written
-    ≡ lineKey (a .n) (a .expander) (line k)
+    ≡ publicShareFor (a .n) (a .expander) (line k)
 made k =
     let e = read k .read-line .ensures in
     key-read (start k .args .n) (start k .args .expander) _ (line k) _ _ _ (start k .pre .0 .1) (sound k) (packed k .packed-length .ensures) (e .0) (e .1 .0) (e .1 .1)

@@ -1,12 +1,12 @@
--- `exam_answering::reports::write_key` meets its contract: what the key maker writes into the part that it is lent is put at its place. Assumes nothing.
+-- `exam_reports::reports::write_key` meets its contract: what the key maker writes into the part that it is lent is put at its place. Assumes nothing.
 use Rattle.point.specs.PublicShare.{publicShareLength}
 use Rattle.calls.specs.Outcome.{Exit}
 use Rattle.keymaker.specs.Key.{keyOutcome}
-use Rattle.exam_answering.proofs.PiecesPut.{part-put}
+use Rattle.exam_reports.proofs.PiecesPut.{part-put}
 use mathlib.Core.Path.{ap}
 use borrow.Author.Needs.{needs}
-use Rattle.exam_answering.proofs.reports.write_key.Statement.{statement}
-use Rattle.exam_answering.proofs.reports.write_key.Tie as tie
+use Rattle.exam_reports.proofs.reports.write_key.Statement.{statement}
+use Rattle.exam_reports.proofs.reports.write_key.Tie as tie
 
 returns : tie.Need-returns
 returns c =
