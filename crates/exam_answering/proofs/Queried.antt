@@ -124,5 +124,5 @@ module _ (t : ℕ) (xs : List Bits) where
       let a = queried-exact n q .0 i in
       let r = last-bit q (a .0) in
       let kept = kept-above (r .0) (r .1) (subst HeavyAbove (r .2) (a .2)) in
-      let open = open-prefixes keeps (r .0) .1 (list-exact (reaches t) (count xs) (length (r .0)) (r .0) .0 kept .1) in
-      rw (r .2, cuts-trim t xs) (count-trim keeps (r .0) (r .1) xs open)
+      let above = open-prefixes keeps (r .0) .1 (list-exact (reaches t) (count xs) (length (r .0)) (r .0) .0 kept .1) in
+      rw (r .2, cuts-trim t xs) (count-trim keeps (r .0) (r .1) xs above)

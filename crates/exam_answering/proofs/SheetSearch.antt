@@ -13,7 +13,7 @@ use Rattle.point.specs.PublicShare.{joined, publicShareLength}
 use Rattle.point.proofs.Joined.{joined-at, joined-byte}
 use Rattle.keymaker.specs.Key.{keyOutcome}
 use Rattle.report_sums.specs.Reports.{seedAt}
-use Rattle.search.specs.Search.{Lent}
+use Rattle.search.specs.Search.{Lent, lent}
 use Rattle.search.proofs.Outcome.{named-expander}
 use Rattle.honest.specs.Honest.{Accepted, recordRead, Honest, keyAt}
 use Rattle.honest.proofs.Making.{made-honest}
@@ -32,6 +32,11 @@ use Rattle.exam_answering.proofs.HonestAnswer.{exam-accepted, answer-pr
 -- 32 public shares of strings of at most 32 bits take 24,832 bytes
 pub shares-room : (n count w : ℕ) → w ≡ publicShareLength n → n ≤ 32 → count ≤ 32 → w * count ≤ 24832
 shares-room n count w size to few = let most : w * count ≤ w * 32 = mul-le-mul-left w few in omega (arith, most)
+
+-- what is lent to a sheet's search
+pub same-lent : (s : Sheet) (n t e : ℕ) (a b c recordArea listArea : List ℕ) → n ≡ s .n → t ≡ s .t → e ≡ expanderNumber (s .expander) → a ≡ seeds0Of s → b ≡ seeds1Of s
+    → c ≡ publicSharesOf s → lent n t e a c b c recordArea listArea ≡ sheetSearch s recordArea listArea
+same-lent s n t e a b c recordArea listArea p q r x y z = rw (p, q, r, x, y, z)
 
 -- ---- one seed of each line
 
