@@ -98,14 +98,7 @@ fn print_answer(
 }
 
 // Answers a sheet to which no cause before 11 applies, in space of its own: what is written is printed of the search of the sheet's own reports.
-pub(crate) fn solve(
-    text: &[u8],
-    n: u16,
-    t: u64,
-    expander: u64,
-    count: u16,
-    out: &mut [u8],
-) -> Reply
+pub(crate) fn solve(text: &[u8], n: u16, t: u64, expander: u64, count: u16, out: &mut [u8]) -> Reply
     requires { ⌜ (isSheet (now text) ≡ true) × (1 ≤ n) × (n ≤ 32) × (1 ≤ t) × (t ≤ 65535) × (isExpander expander ≡ true) × (count ≤ 32) ⌝ }
     requires { ⌜ (n ≡ sheetOf (now text) .n) × (t ≡ sheetOf (now text) .t) × (expander ≡ expanderNumber (sheetOf (now text) .expander)) ×
         (count ≡ length (sheetOf (now text) .lines)) ⌝ }

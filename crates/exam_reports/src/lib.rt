@@ -29,12 +29,7 @@ fn fit(n: u16, count: u16, room0: usize, room1: usize, room: usize) -> bool
 
 // Makes the reports of the sheet that a text is, with the sheet's own expander and root seeds, and tells whether it did: it writes nothing where the text
 // is no sheet's, n is 0, the expander is not 1 or 2, or an area is too small.
-pub fn make_reports(
-    text: &[u8],
-    seeds0: &mut [u8],
-    seeds1: &mut [u8],
-    shares: &mut [u8],
-) -> bool
+pub fn make_reports(text: &[u8], seeds0: &mut [u8], seeds1: &mut [u8], shares: &mut [u8]) -> bool
     ensures { λ r. ⌜ madeWith r (now (seeds0 .exit)) (now (seeds1 .exit)) (now (shares .exit))
         ≡ reportsMade (readSheet (now (text .entry))) (now (seeds0 .entry)) (now (seeds1 .entry)) (now (shares .entry)) ⌝ }
 {
@@ -54,6 +49,15 @@ pub fn make_reports(
     if !fit(n, count, seeds0.len(), seeds1.len(), shares.len()) {
         return false;
     }
-    write_reports(text, sheet.lines, n, expander, count, seeds0, seeds1, shares);
+    write_reports(
+        text,
+        sheet.lines,
+        n,
+        expander,
+        count,
+        seeds0,
+        seeds1,
+        shares,
+    );
     true
 }

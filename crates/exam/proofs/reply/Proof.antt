@@ -1,20 +1,27 @@
--- `exam::reply` meets its contract: what `respond` wrote is within the space. Assumes nothing.
-use mathlib.Core.Path.{ap}
+-- `exam::reply` meets its contract: in this space `respond` leaves the whole output. Assumes nothing.
+use mathlib.Core.Path.{ap, ap₂, _∙_}
 use borrow.Author.Needs.{needs}
+use lib.ListN.{take}
+use lib.Seq.{take-append-seam}
 use Rattle.io.proofs.Counting.{counts}
-use Rattle.calls.specs.Outcome.{Exit}
+use Rattle.places.specs.Places.{overlay}
+use Rattle.calls.specs.Outcome.{Outcome, Exit, exit}
+use Rattle.exam_answering.specs.Exam.{output}
 use Rattle.exam_answering.proofs.Inside.{inside}
+use Rattle.exam_answering.proofs.Outputs.{respond-enough}
 use Rattle.exam.proofs.reply.Statement.{statement}
 use Rattle.exam.proofs.reply.Tie as tie
 
-array-share-prefix-out : tie.Need-array-share-prefix-out
-array-share-prefix-out c = let r = c .before .respond in inside _ _ _ _ (ap (λ (x : Exit). x .length) (r .ensures)) (ap (λ (x : Exit). x .area) (r .ensures))
-
-slice-aggregate-put : tie.Need-slice-aggregate-put
-slice-aggregate-put c = let r = c .before .before .respond in counts _ _ (inside _ _ _ _ (ap (λ (x : Exit). x .length) (r .ensures)) (ap (λ (x : Exit). x .area) (r .ensures))) .1
+returns : tie.Need-returns
+unfolding overlay
+returns c =
+    let r = c .before .before in
+    let s = r .before .before .before .before in
+    let a = s .args in
+    let is = r .respond .ensures ∙ ap (λ (o : Outcome). exit o (a .out .now)) (respond-enough (a .text .now) _ (s .pre)) in
+    let size = ap (λ (x : Exit). x .length) is in
+    let area = ap (λ (x : Exit). x .area) is in
+    (counts _ _ (inside _ (output (a .text .now)) (a .out .now) _ size area), ap₂ take size area ∙ take-append-seam (output (a .text .now)) _)
 
 pub reply-spec : {M : Type 1} → statement M
-reply-spec =
-    tie.close
-    (tie.spec (λ c κs. search needs) (λ c. search needs) (λ c κs. search needs) array-share-prefix-out slice-aggregate-put (λ c κs. search needs)
-    (λ c. search needs))
+reply-spec = tie.close (tie.spec (λ c κs. search needs) (λ c. search needs) returns)
