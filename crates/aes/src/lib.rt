@@ -52,7 +52,8 @@ fn encrypt_with(table: &[u8; 256], key: [u8; 16], block: [u8; 16]) -> [u8; 16]
         i += 1;
     }
     k = k.next_round_key(table, 9);
-    s.last_round(table, k)
+    s = s.last_round(table, k);
+    s.store()
 }
 
 // `encrypt_two`, with the table lent.
@@ -71,9 +72,11 @@ fn encrypt_two_with(table: &[u8; 256], key: [u8; 16], first: [u8; 16], second: [
         j += 1;
     }
     k = k.next_round_key(table, 9);
+    s = s.last_round(table, k);
+    u = u.last_round(table, k);
     Pair {
-        first: s.last_round(table, k),
-        second: u.last_round(table, k),
+        first: s.store(),
+        second: u.store(),
     }
 }
 

@@ -118,15 +118,14 @@ impl State {
         self.add_round_key(key)
     }
 
-    // The last round, which has no MixColumns and gives the encrypted block.
-    pub(crate) fn last_round(mut self, table: &[u8; 256], key: State) -> [u8; 16]
+    // The last round, which has no MixColumns.
+    pub(crate) fn last_round(mut self, table: &[u8; 256], key: State) -> State
         requires { ⌜ now table ≡ sBoxTable ⌝ }
-        ensures { λ r. ⌜ r ≡ lastRound (bytesOf self) (bytesOf key) ⌝ }
+        ensures { λ r. ⌜ bytesOf r ≡ lastRound (bytesOf self) (bytesOf key) ⌝ }
     {
         self = self.sub_bytes(table);
         self = self.shift_rows();
-        self = self.add_round_key(key);
-        self.store()
+        self.add_round_key(key)
     }
 
     // From the round key of round i to that of round i + 1.

@@ -1,5 +1,5 @@
 -- `aes::encrypt_two_with` meets its contract. After j steps of the loop the key and both states are those after j rounds. Assumes nothing.
-use mathlib.Core.Path.{_≡_}
+use mathlib.Core.Path.{_≡_, _∙_}
 use Prim.Native.Nat.{_-_, _≤_}
 use native.Mathlib.Omega.{arith}
 use Rattle.aes.specs.StateLayout.{bytesOf}
@@ -25,13 +25,16 @@ loop-again c =
 
 returns : tie.Need-returns Inv-loop μ-loop
 returns c =
-    let k = c .before .before in
+    let f = c .before in
+    let u = f .before in
+    let s = u .before in
+    let k = s .before in
     let l = k .before .before in
     let b = l .before in
     let key = b .before .before .load .ensures in
     let nine : l .loop .j ≡ 9 = omega arith in (
-      last _ key (b .before .begin .ensures) (l .loop .inv .0) nine (k .next-round-key2 .ensures) (c .before .last-round .ensures),
-      last _ key (b .begin2 .ensures) (l .loop .inv .1) nine (k .next-round-key2 .ensures) (c .last-round2 .ensures),
+      f .store .ensures ∙ last _ key (b .before .begin .ensures) (l .loop .inv .0) nine (k .next-round-key2 .ensures) (s .last-round .ensures),
+      c .store2 .ensures ∙ last _ key (b .begin2 .ensures) (l .loop .inv .1) nine (k .next-round-key2 .ensures) (u .last-round2 .ensures),
     )
 
 pub encrypt-two-with-spec : {M : Type 1} → statement M
@@ -39,4 +42,4 @@ encrypt-two-with-spec =
     tie.close
     (tie.spec Inv-loop μ-loop (λ c κs. search needs) (λ c κs. search needs) (λ c κs. search needs) loop-holds (λ c κs. search needs)
     (λ c κs. search needs) (λ c κs. search needs) (λ c. search needs) (λ c. search needs) loop-again (λ c κs. search needs) (λ c κs. search needs)
-    (λ c κs. search needs) returns)
+    (λ c κs. search needs) (λ c κs. search needs) (λ c κs. search needs) returns)

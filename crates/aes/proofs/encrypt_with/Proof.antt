@@ -1,5 +1,5 @@
 -- `aes::encrypt_with` meets its contract. After i steps of the loop the key and the state are those after i rounds. Assumes nothing.
-use mathlib.Core.Path.{_≡_}
+use mathlib.Core.Path.{_≡_, _∙_}
 use Prim.Native.Nat.{_-_, _≤_}
 use native.Mathlib.Omega.{arith}
 use Rattle.aes.specs.StateLayout.{bytesOf}
@@ -22,14 +22,16 @@ loop-again c = (next (c .before .before .before .loop .inv .0) (c .before .next-
 
 returns : tie.Need-returns Inv-loop μ-loop
 returns c =
-    let k = c .before in
+    let s = c .before in
+    let k = s .before in
     let l = k .before .before in
     let b = l .before in
     let nine : l .loop .i ≡ 9 = omega arith in
-    last _ (b .before .load .ensures) (b .begin .ensures) (l .loop .inv .0) nine (k .next-round-key2 .ensures) (c .last-round .ensures)
+    c .store .ensures ∙ last _ (b .before .load .ensures) (b .begin .ensures) (l .loop .inv .0) nine (k .next-round-key2 .ensures) (s .last-round .ensures)
 
 pub encrypt-with-spec : {M : Type 1} → statement M
 encrypt-with-spec =
     tie.close
     (tie.spec Inv-loop μ-loop (λ c κs. search needs) (λ c κs. search needs) loop-holds (λ c κs. search needs) (λ c κs. search needs)
-    (λ c. search needs) (λ c. search needs) loop-again (λ c κs. search needs) (λ c κs. search needs) returns)
+    (λ c. search needs) (λ c. search needs) loop-again (λ c κs. search needs) (λ c κs. search needs)
+    (λ c κs. search needs) returns)

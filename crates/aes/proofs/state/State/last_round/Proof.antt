@@ -10,10 +10,9 @@ use Rattle.aes.proofs.state.State.last_round.Tie as tie
 
 returns : tie.Need-returns
 returns c =
-    let b = c .before .before in
+    let b = c .before in
     let key = bytesOf (b .before .before .args .key) in
-    c .store .ensures ∙ c .before .add-round-key .ensures
-    ∙ ap (λ (s : List ℕ). addRoundKey s key) (b .shift-rows .ensures ∙ ap shiftRows (b .before .sub-bytes .ensures))
+    c .add-round-key .ensures ∙ ap (λ (s : List ℕ). addRoundKey s key) (b .shift-rows .ensures ∙ ap shiftRows (b .before .sub-bytes .ensures))
 
 pub last-round-spec : {M : Type 1} → statement M
-last-round-spec = tie.close (tie.spec (λ c κs. search needs) (λ c κs. search needs) (λ c κs. search needs) (λ c κs. search needs) returns)
+last-round-spec = tie.close (tie.spec (λ c κs. search needs) (λ c κs. search needs) (λ c κs. search needs) returns)
