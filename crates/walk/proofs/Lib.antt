@@ -1,3 +1,4 @@
+mod Counted
 pub mod Descent
 pub mod PublicTests
 pub mod Siblings

@@ -1,1 +1,2 @@
-mod Held
+pub mod Held
+pub mod Lent

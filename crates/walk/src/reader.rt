@@ -7,10 +7,10 @@ ghost use Rattle.point.specs.PublicShare.{readCorrection};
 ghost use Rattle.nodes.specs.NodeLayout.{correctionOf};
 
 // A lent public share, its number of levels, and the level that is read next.
-struct ShareReader<'a> {
+pub(crate) struct ShareReader<'a> {
     share: &'a [u8],
     levels: u16,
-    next: u16,
+    pub(crate) next: u16,
 }
 
 // A level that was read: its correction word, and the level after it.
@@ -37,7 +37,7 @@ fn read_correction(bytes: &[u8], n: u16, k: u16) -> Correction
 
 impl<'a> ShareReader<'a> {
     // A reader of a public share of `levels` levels, at level `next`.
-    fn at_level(share: &'a [u8], levels: u16, next: u16) -> ShareReader<'a>
+    pub(crate) fn at_level(share: &'a [u8], levels: u16, next: u16) -> ShareReader<'a>
         ensures { λ r. ⌜ (r .share ≡ share .entry) × (r .levels ≡ levels) × (r .next ≡ next) ⌝ }
     {
         ShareReader {
@@ -48,14 +48,14 @@ impl<'a> ShareReader<'a> {
     }
 
     // The correction word of the next level.
-    fn correction(self) -> Correction
+    pub(crate) fn correction(self) -> Correction
         ensures { λ r. ⌜ correctionOf r ≡ readCorrection (self .entry .levels) (now (self .entry .share)) (self .entry .next) ⌝ }
     {
         read_correction(self.share, self.levels, self.next)
     }
 
     // The reader handed on by one level.
-    fn advanced(self) -> ShareReader<'a>
+    pub(crate) fn advanced(self) -> ShareReader<'a>
         requires { ⌜ self .next < 65535 ⌝ }
         ensures { λ r. ⌜ (r .share ≡ self .entry .share) × (r .levels ≡ self .entry .levels) × (r .next ≡ self .entry .next + 1) ⌝ }
     {
