@@ -1,21 +1,19 @@
 -- The number that `combine` returns is the one that is due, where the query is bytes. Assumes nothing.
-use Prim.Native.Nat.{ℕ, _*_, _%_, _≤_, _<_}
-use mathlib.Core.Path.{_≡_, refl, sym, subst, _∙_}
+use Prim.Native.Nat.{ℕ, _*_, _<_}
+use mathlib.Core.Path.{_≡_, sym, _∙_}
 use mathlib.Core.Bool.{Bool, true, false, not, true≢false, _&&_, _||_}
-use mathlib.Core.List.{List, [], _∷_}
-use mathlib.Core.List.{List·Memᴰ·head as here, List·Memᴰ·tail as there}
-use borrow.Author.Tests.{le-ltb, ltb-false}
+use mathlib.Core.List.{List}
 use lib.ListN.{length, getD}
 use lib.Dec.{T, eqb, ltb, ltb→lt, lt→ltb, not-T}
-use Rattle.places.specs.Lists.{_∈_}
 use Rattle.calls.specs.Causes.{Due}
-use Rattle.calls.proofs.Decisions.{passed, failed, failed-test, differ, differ-test, either, either-test}
+use Rattle.calls.proofs.Decisions.{passed, failed, differ, differ-test, either, either-test}
 use Rattle.calls.proofs.Judged.{due, none, next as also, length-decided, threshold-decided}
-use Rattle.group.specs.Modular.{p}
 use Rattle.query.specs.Query.{limit, IsQuery, isQuery, prefixCount}
 use Rattle.query.proofs.Queries.{query-exact}
-use Rattle.combine.specs.Answer.{numbers, Answer, next, list, ended}
-use Rattle.combine.specs.Combine.{WrongShares, wrongShares, NumberTooLarge, allBelow, PassesLimit, passesLimit, combineAnswer, combineBytes, combineCauses, combineOutcome}
+use Rattle.shares.specs.ShareNumbers.{unmatched}
+use Rattle.shares.proofs.Matching.{unmatched-holds, unmatched-test, numbers-decided}
+use Rattle.combine.specs.Answer.{Answer, next, list, ended}
+use Rattle.combine.specs.Combine.{WrongShares, wrongShares, PassesLimit, passesLimit, combineAnswer, combineBytes, combineCauses, combineOutcome}
 
 -- ---- each test decides its clause
 
@@ -26,31 +24,6 @@ both false b f g t = absurd t
 both-test : {P Q : Type 0} (a b : Bool) → (P → T a) → (Q → T b) → P × Q → T (a && b)
 both-test true b f g h = g (h .1)
 both-test false b f g h = absurd (f (h .0))
-
--- a number that is not below p
-some-large : (xs : List ℕ) → allBelow xs ≡ false → (x : ℕ) × (x ∈ xs) × (p ≤ x)
-unfolding allBelow
-some-large [] h = absurd (true≢false h)
-some-large (x ∷ xs) h = go (ltb x p) refl h (some-large xs)
-  where
-    go : (b : Bool) → ltb x p ≡ b → (b && allBelow xs) ≡ false → (allBelow xs ≡ false → (y : ℕ) × (y ∈ xs) × (p ≤ y)) → (y : ℕ) × (y ∈ x ∷ xs) × (p ≤ y)
-    go true e h f = let w = f h in (w .0, there (w .1), w .2)
-    go false e h f = (x, here refl, ltb-false x p e)
-
-large-fails : (x : ℕ) (xs : List ℕ) → x ∈ xs → p ≤ x → allBelow xs ≡ false
-unfolding allBelow
-large-fails x (y ∷ xs) (here e) l = let k : p ≤ y = subst (λ (z : ℕ). p ≤ z) e l in rw (le-ltb y p k)
-large-fails x (y ∷ xs) (there m) l = go (ltb y p) (large-fails x xs m l)
-  where
-    go : (b : Bool) → allBelow xs ≡ false → (b && allBelow xs) ≡ false
-    go true h = h
-    go false h = refl
-
-too-large : (s : List ℕ) → T (not (allBelow (numbers s))) → NumberTooLarge s
-too-large s t = some-large (numbers s) (failed (allBelow (numbers s)) t)
-
-too-large-test : (s : List ℕ) → NumberTooLarge s → T (not (allBelow (numbers s)))
-too-large-test s h = failed-test (large-fails (h .0) (numbers s) (h .1) (h .2))
 
 pub passes : (a : Answer) → T (passesLimit a) → PassesLimit a
 passes (next qs) t = ltb→lt limit (length qs) t
@@ -74,31 +47,18 @@ module _ (n t : ℕ) (query share0 share1 : List ℕ) (room : ℕ) (byte : (i : 
   a-query-holds : IsQuery n query → T (isQuery n query)
   a-query-holds q = rw (a-query-test q) tt
 
-  abbrev lengths-differ : Bool
-  lengths-differ = not (eqb (length share0) (length share1))
-
-  abbrev odd-length : Bool
-  odd-length = not (eqb (length share0 % 8) 0)
-
   abbrev other-count : Bool
   other-count = not (eqb (length share0) (8 * prefixCount query))
 
   wrong : T (wrongShares n query share0 share1) → WrongShares n query share0 share1
   wrong =
-      either lengths-differ (odd-length || (isQuery n query && other-count)) (differ _ _)
-      (either odd-length (isQuery n query && other-count) (differ _ _) (both (isQuery n query) other-count a-query (differ _ _)))
+      either (unmatched share0 share1) (isQuery n query && other-count) (unmatched-holds share0 share1)
+      (both (isQuery n query) other-count a-query (differ _ _))
 
   wrong-test : WrongShares n query share0 share1 → T (wrongShares n query share0 share1)
   wrong-test =
-      either-test lengths-differ (odd-length || (isQuery n query && other-count)) (differ-test _ _)
-      (either-test odd-length (isQuery n query && other-count) (differ-test _ _)
-      (both-test (isQuery n query) other-count a-query-holds (differ-test _ _)))
-
-  abbrev large0 : Bool
-  large0 = not (allBelow (numbers share0))
-
-  abbrev large1 : Bool
-  large1 = not (allBelow (numbers share1))
+      either-test (unmatched share0 share1) (isQuery n query && other-count) (unmatched-test share0 share1)
+      (both-test (isQuery n query) other-count a-query-holds (differ-test _ _))
 
   abbrev no-room : Bool
   no-room = ltb room (length (combineBytes n t query share0 share1))
@@ -114,9 +74,7 @@ module _ (n t : ℕ) (query share0 share1 : List ℕ) (room : ℕ) (byte : (i : 
       (length-decided n
       (threshold-decided t
       (also {b = wrongShares n query share0 share1} wrong wrong-test
-      (also {b = large0 || large1}
-      (either large0 large1 (too-large share0) (too-large share1))
-      (either-test large0 large1 (too-large-test share0) (too-large-test share1))
+      (numbers-decided share0 share1
       (also {b = not (isQuery n query)}
       (λ h q. true≢false (sym (a-query-test q) ∙ failed (isQuery n query) h))
       (λ g. not-T (isQuery n query) (λ h. g (a-query h)))

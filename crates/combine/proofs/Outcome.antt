@@ -16,22 +16,14 @@ use Rattle.calls.specs.Causes.{Cause, numberDue}
 use Rattle.calls.specs.Outcome.{accepted, judged}
 use Rattle.calls.proofs.Judged.{Clear, first-due, second-due, judged-due, judged-refused, judged-second}
 use Rattle.query.specs.Query.{isQuery, prefixLength, children}
+use Rattle.shares.specs.ShareNumbers.{numbers, allBelow}
+use Rattle.shares.proofs.Matching.{not-both, both}
 use Rattle.combine.specs.declared.Combined.{Combined}
 use Rattle.combine.specs.declared.Combined.the-variants.{Refused}
-use Rattle.combine.specs.Answer.{numbers, Answer, next, list, ended, further, answerBytes, kind, numberOf, lengthOf, kindOf}
-use Rattle.combine.specs.Combine.{wrongShares, allBelow, keptPrefixes, combineAnswer, combineBytes, passesLimit, lentCauses, spaceCauses, combineCauses, combineOutcome, combineKind, combineExit, told}
+use Rattle.combine.specs.Answer.{Answer, next, list, ended, further, answerBytes, kind, numberOf, lengthOf, kindOf}
+use Rattle.combine.specs.Combine.{wrongShares, keptPrefixes, combineAnswer, combineBytes, passesLimit, lentCauses, spaceCauses, combineCauses, combineOutcome, combineKind, combineExit, told}
 
 -- ---- the first cause that applies of those of what is lent
-
-not-both : (a b : Bool) → (a && b) ≡ false → (not a || not b) ≡ true
-not-both true true h = sym h
-not-both true false h = refl
-not-both false b h = refl
-
-both : (a b : Bool) → (a && b) ≡ true → (not a || not b) ≡ false
-both true true h = refl
-both true false h = sym h
-both false b h = sym h
 
 module _ (n t : ℕ) (q s0 s1 : List ℕ) where
   pub cause-1 : outside mostBits n ≡ true → 1 ≡ numberDue (lentCauses n t q s0 s1)

@@ -12,17 +12,17 @@ use Rattle.query.specs.Query.{packs, parts, prefixLength, prefixCount, packedPr
 use Rattle.query.specs.Prefix.{part}
 use Rattle.query.proofs.Parts.{part-bytes}
 use Rattle.kept.proofs.Onward as pieces
+use Rattle.shares.proofs.Numbers.{addedAt, addedFrom, added-step}
 use Rattle.combine.specs.Combine.{passing}
-use Rattle.combine.proofs.Numbers.{totalAt, totalsFrom, totals-step}
 
 -- ---- those of m prefixes of len bits, w bytes each, from a place of the query on that pass, with their totals from a place of the shares on
 
 module _ (passes : ℕ → Bool) (len : ℕ) (q s0 s1 : List ℕ) where
   abbrev pub keptFrom : ℕ → ℕ → ℕ → List Bits
-  keptFrom m from place = pieces.keptAt passes len q m from (totalsFrom s0 s1 m place)
+  keptFrom m from place = pieces.keptAt passes len q m from (addedFrom s0 s1 m place)
 
   module _ (w : ℕ) (f : w ≡ packedLength len) (m from place : ℕ) (h : 0 < m) (room0 : place + 8 ≤ length s0) (room1 : place + 8 ≤ length s1) (b : Bool)
-      (e : b ≡ passes (totalAt s0 s1 place)) where
+      (e : b ≡ passes (addedAt s0 s1 place)) where
     abbrev rest : List Bits
     rest = keptFrom (m - 1) (from + w) (place + 8)
 
@@ -30,7 +30,7 @@ module _ (passes : ℕ → Bool) (len : ℕ) (q s0 s1 : List ℕ) where
     pub onward-step : (last : Bool) → ((i : ℕ) → getD q i 0 < 256) → from + w ≤ length q → spareZero len (take w (drop from q)) ≡ true
         → packs (pieces.onward last (keptFrom m from place)) ≡ cond b (pieces.onwardBytes last len (part w from q)) [] ++ packs (pieces.onward last rest)
     onward-step last byte room z =
-        rw (totals-step s0 s1 m place h room0 room1)
+        rw (added-step s0 s1 m place h room0 room1)
         (pieces.onward-step passes len q w f m from h _ _ b e last room (pack-unpack len (take w (drop from q)) (rw (← f) (part-bytes w from q byte room)) z))
 
 -- ---- all prefixes of a query

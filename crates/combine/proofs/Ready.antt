@@ -1,9 +1,9 @@
 -- What follows where no cause of what is lent applies. Assumes nothing.
-use Prim.Native.Nat.{ℕ, suc, _+_, _*_, _/_, _%_, _≤_, _<_}
+use Prim.Native.Nat.{ℕ, suc, _+_, _*_, _≤_, _<_}
 use native.Mathlib.Omega.{arith}
-use mathlib.Core.Path.{_≡_, refl, sym, _∙_}
+use mathlib.Core.Path.{_≡_, sym, _∙_}
 use mathlib.Core.Bool.{Bool, true, false, not}
-use mathlib.Core.List.{List, [], _∷_}
+use mathlib.Core.List.{List}
 use borrow.Author.Tests.{eqb-true, not-false}
 use lib.ListN.{length, getD}
 use lib.Dec.{eqb}
@@ -13,14 +13,15 @@ use Rattle.calls.specs.Bounds.{mostBits}
 use Rattle.calls.specs.Causes.{numberDue}
 use Rattle.calls.proofs.Decisions.{neither, bounds}
 use Rattle.calls.proofs.Judged.{Clear, number-clear}
-use Rattle.group.specs.Group.{Group}
 use Rattle.group.specs.Modular.{field}
 use Rattle.kept.proofs.Kept.{kept-all, kept-length}
 use Rattle.query.specs.Query.{OfLength, packs, query, isQuery, prefixLength, prefixCount, prefixesOf, children}
 use Rattle.query.proofs.Pieces as pieces
 use Rattle.query.proofs.Children.{children-length, children-longer}
 use Rattle.query.proofs.Queries.{packs-length, query-length, query-exact, read-length, read-prefixes}
-use Rattle.combine.specs.Answer.{numbers, added}
+use Rattle.shares.specs.ShareNumbers.{numbers, unmatched}
+use Rattle.shares.proofs.Numbers.{added-length, numbers-length}
+use Rattle.shares.proofs.Matching.{matched}
 use Rattle.combine.specs.Combine.{shareTotals, passing, lentCauses}
 
 -- The query passes, and each share has a number for each prefix.
@@ -37,9 +38,8 @@ module _ (n t : ℕ) (q s0 s1 : List ℕ) where
   clear-ready z =
       let inside = bounds mostBits n (z .0) in
       let passes : isQuery n q ≡ true = not-false (isQuery n q) (z .1 .1 .1 .1 .0) in
-      let l = neither (not (eqb (length s0) (length s1))) _ (z .1 .1 .0) in
-      let m = neither (not (eqb (length s0 % 8) 0)) _ (l .1) in
-      let other : not (eqb (length s0) (8 * prefixCount q)) ≡ false = rw passes at (m .1) in
+      let l = neither (unmatched s0 s1) _ (z .1 .1 .0) in
+      let other : not (eqb (length s0) (8 * prefixCount q)) ≡ false = rw passes at (l .1) in
       let counted : length s0 ≡ 8 * prefixCount q = eqb-true (length s0) (8 * prefixCount q) (not-false _ other) in
       record {
         some-bits = inside .0;
@@ -47,21 +47,13 @@ module _ (n t : ℕ) (q s0 s1 : List ℕ) where
         clear = z;
         a-query = passes;
         first = counted;
-        second = sym (eqb-true (length s0) (length s1) (not-false _ (l .0))) ∙ counted;
+        second = sym (matched s0 s1 (l .0) .0) ∙ counted;
       }
 
   pub ready : numberDue (lentCauses n t q s0 s1) ≡ 0 → Ready n t q s0 s1
   ready h = clear-ready (number-clear (lentCauses n t q s0 s1) (omega arith, (omega arith, (omega arith, (omega arith, (omega arith, tt))))) h)
 
 -- ---- the kept prefixes
-
-added-length : (G : Group ℕ) (xs ys : List ℕ) → length xs ≡ length ys → length (added G xs ys) ≡ length xs
-added-length G [] ys l = refl
-added-length G (x ∷ xs) [] l = absurd (omega arith)
-added-length G (x ∷ xs) (y ∷ ys) l = omega (arith, added-length G xs ys (omega arith))
-
-pub numbers-length : (s : List ℕ) → length (numbers s) ≡ length s / 8
-numbers-length s = pieces.numbers-length (length s / 8) 0 s
 
 prefixes-length : (q : List ℕ) → length (prefixesOf q) ≡ prefixCount q
 prefixes-length q = pieces.strings-length (prefixLength q) (prefixCount q) 6 q

@@ -15,7 +15,7 @@ use Rattle.query.specs.Query.{prefixesOf}
 use Rattle.tree.specs.SearchRule.{totals}
 use Rattle.tree.proofs.Lengths.{totals-length}
 use Rattle.tree.proofs.Read.{totals-read}
-use Rattle.combine.specs.Answer.{numbers, added}
+use Rattle.shares.specs.ShareNumbers.{numbers, added}
 use Rattle.combine.specs.Combine.{passing}
 
 -- Totals are added place by place.

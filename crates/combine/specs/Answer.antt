@@ -1,28 +1,13 @@
 -- What combining answers: document 01, 'The search'. Assumes nothing.
-use Prim.Native.Nat.{ℕ, _/_}
+use Prim.Native.Nat.{ℕ}
 use mathlib.Core.Bool.{cond}
-use mathlib.Core.List.{List, [], _∷_, map}
+use mathlib.Core.List.{List, [], _∷_}
 use mathlib.Core.Option.{Option, none, some}
-use lib.ListN.{length}
 use lib.Dec.{eqb}
 use Rattle.bits.specs.Strings.{Bits}
-use Rattle.numbers.specs.Numbers.{fromLittle}
-use Rattle.group.specs.Group.{Group}
-use Rattle.query.specs.Query.{packs, query, parts, children}
+use Rattle.query.specs.Query.{packs, query, children}
 use Rattle.combine.specs.declared.Combined.{Combined}
 use Rattle.combine.specs.declared.Combined.the-variants.{Next, List as Listed, Ended, Refused}
-
--- ---- totals
-
--- the numbers of a share, 8 bytes each
-abbrev pub numbers : List ℕ → List ℕ
-numbers share = map fromLittle (parts 8 (length share / 8) share)
-
--- the totals of two shares: their numbers, added place by place in the group
-abbrev pub added : Group ℕ → List ℕ → List ℕ → List ℕ
-added G [] ys = []
-added G (x ∷ xs) [] = []
-added G (x ∷ xs) (y ∷ ys) = G .add x y ∷ added G xs ys
 
 -- ---- the answer
 

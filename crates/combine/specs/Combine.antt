@@ -1,42 +1,30 @@
 -- The call `combine`: document 01, 'The search' and 'Causes of refusal'. Assumes nothing.
-use Prim.Native.Nat.{ℕ, _*_, _%_, _≤_, _<_}
-use mathlib.Core.Bool.{Bool, true, false, cond, not, _&&_, _||_}
+use Prim.Native.Nat.{ℕ, _*_, _<_}
+use mathlib.Core.Bool.{Bool, false, cond, not, _&&_, _||_}
 use mathlib.Core.List.{List, [], _∷_, _++_}
 use mathlib.Core.Logic.{_≢_, _⊎_}
 use mathlib.Core.Option.{Option, none, some}
 use lib.ListN.{length}
 use lib.Dec.{ltb, eqb}
-use Rattle.places.specs.Lists.{_∈_}
 use Rattle.places.specs.Places.{overlay}
 use Rattle.bits.specs.Strings.{Bits}
 use Rattle.calls.specs.Bounds.{lengthCause, thresholdCause}
 use Rattle.calls.specs.Causes.{Cause, cause, numberDue}
 use Rattle.calls.specs.Outcome.{Outcome, judged}
-use Rattle.group.specs.Modular.{modulus, field}
+use Rattle.group.specs.Modular.{field}
 use Rattle.kept.specs.declared.Rule.{Rule}
 use Rattle.kept.specs.Kept.{reaches, reachesBy, kept}
 use Rattle.query.specs.Query.{limit, IsQuery, isQuery, prefixLength, prefixCount, prefixesOf}
-use Rattle.combine.specs.Answer.{numbers, added, Answer, next, list, ended, answerAt, answerBytes, Kind, kind, numberOf, lengthOf, kindOf}
+use Rattle.shares.specs.ShareNumbers.{numbers, added, Unmatched, unmatched, numbersCause}
+use Rattle.combine.specs.Answer.{Answer, next, list, ended, answerAt, answerBytes, Kind, kind, numberOf, lengthOf, kindOf}
 use Rattle.combine.specs.declared.Combined.{Combined}
 
 -- Two lent shares have the wrong length: their lengths differ or are no multiple of 8, or the query passes 9 and its count is another.
 abbrev pub WrongShares : ℕ → List ℕ → List ℕ → List ℕ → Type 0
-WrongShares n query share0 share1 =
-    (length share0 ≢ length share1) ⊎ (length share0 % 8 ≢ 0) ⊎ (IsQuery n query × (length share0 ≢ 8 * prefixCount query))
+WrongShares n query share0 share1 = Unmatched share0 share1 ⊎ (IsQuery n query × (length share0 ≢ 8 * prefixCount query))
 
 abbrev pub wrongShares : ℕ → List ℕ → List ℕ → List ℕ → Bool
-wrongShares n query share0 share1 =
-    not (eqb (length share0) (length share1))
-    || (not (eqb (length share0 % 8) 0) || (isQuery n query && not (eqb (length share0) (8 * prefixCount query))))
-
--- a number of the share is p or more
-abbrev pub NumberTooLarge : List ℕ → Type 0
-NumberTooLarge share = (x : ℕ) × (x ∈ numbers share) × (modulus ≤ x)
-
--- whether every number of the list is below p
-unfoldable pub allBelow : List ℕ → Bool
-allBelow [] = true
-allBelow (x ∷ xs) = ltb x modulus && allBelow xs
+wrongShares n query share0 share1 = unmatched share0 share1 || (isQuery n query && not (eqb (length share0) (8 * prefixCount query)))
 
 -- the totals of two shares, each a whole number below p
 abbrev pub shareTotals : List ℕ → List ℕ → List ℕ
@@ -79,7 +67,7 @@ lentCauses n t query share0 share1 =
     lengthCause n
     ∷ thresholdCause t
     ∷ cause 4 (WrongShares n query share0 share1) (wrongShares n query share0 share1)
-    ∷ cause 6 (NumberTooLarge share0 ⊎ NumberTooLarge share1) (not (allBelow (numbers share0)) || not (allBelow (numbers share1)))
+    ∷ numbersCause share0 share1
     ∷ cause 9 (IsQuery n query → ⊥) (not (isQuery n query))
     ∷ []
 

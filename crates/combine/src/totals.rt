@@ -1,6 +1,5 @@
 // Totals, and which prefixes are kept.
 use kept::Rule;
-use numbers::read_le8;
 ghost use mathlib.Core.Path.{_≡_};
 ghost use Prim.Native.Nat.{_*_, _≤_};
 ghost use lib.ListN.{length};
@@ -11,18 +10,11 @@ ghost use Rattle.group.specs.Modular.{field};
 ghost use Rattle.kept.specs.Kept.{reachesBy};
 ghost use Rattle.combine.specs.Combine.{shareTotals};
 
-// The total at place `at` of the two shares.
-fn total_at(share0: &[u8], share1: &[u8], at: usize) -> u64
-    ensures { λ r. ⌜ r ≡ field .add (fromLittle (window 8 at (now (share0 .entry)))) (fromLittle (window 8 at (now (share1 .entry)))) ⌝ }
-{
-    group::add(read_le8(share0, at), read_le8(share1, at))
-}
-
 // Whether the prefix whose total stands at place `at` is kept.
 pub(crate) fn is_kept(rule: Rule, share0: &[u8], share1: &[u8], at: usize) -> bool
     ensures { λ r. ⌜ r ≡ reachesBy rule (field .add (fromLittle (window 8 at (now (share0 .entry)))) (fromLittle (window 8 at (now (share1 .entry))))) ⌝ }
 {
-    kept::reaches(rule, total_at(share0, share1, at))
+    kept::reaches(rule, shares::sum_at(share0, share1, at))
 }
 
 // How many prefixes are kept.

@@ -27,8 +27,9 @@ use Rattle.query.proofs.Children.{children-longer}
 use Rattle.tree.proofs.Lengths.{totals-length}
 use Rattle.query.proofs.Queries.{query-passes, read-length, read-count, read-prefixes}
 use Rattle.report_sums.specs.Reports.{allCount, serverSum}
-use Rattle.combine.specs.Answer.{numbers, added, answerAt, answerBytes}
-use Rattle.combine.specs.Combine.{wrongShares, allBelow, keptPrefixes, passesLimit, combineCauses, combineOutcome}
+use Rattle.shares.specs.ShareNumbers.{numbers, added, allBelow}
+use Rattle.combine.specs.Answer.{answerAt, answerBytes}
+use Rattle.combine.specs.Combine.{wrongShares, keptPrefixes, passesLimit, combineCauses, combineOutcome}
 use Rattle.combine.proofs.ShareTotals.{numbers-totals, added-map}
 use Rattle.search.specs.Search.{Lent, total, totalUnder, reachesOf}
 use Rattle.search.proofs.Outcome.{Sound}
@@ -36,7 +37,7 @@ use Rattle.honest.specs.Loop.{shareOf, shareFor, totalsFor, answerFor, s
 use Rattle.honest.proofs.SoundShares.{server-below, whole-share}
 
 -- numbers that are below p pass
-below-all : (T : Bits → ℕ) → ((q : Bits) → T q < p) → (qs : List Bits) → allBelow (map T qs) ≡ true
+pub below-all : (T : Bits → ℕ) → ((q : Bits) → T q < p) → (qs : List Bits) → allBelow (map T qs) ≡ true
 unfolding allBelow
 below-all T small [] = refl
 below-all T small (q ∷ qs) = rw (lt-ltb (T q) p (small q)) (below-all T small qs)
@@ -118,8 +119,8 @@ module _ (s : Lent) (sound : Sound s) where
     right-shares : wrongShares (s .n) q (shareFor s false q) (shareFor s true q) ≡ false
     right-shares =
         let eight : length (shareFor s false q) % 8 ≡ 0 = omega (arith, share-size false) in
-        neither-test (ap not (eq-eqb _ _ (share-size false ∙ sym (share-size true))))
-        (neither-test (ap not (eq-eqb _ 0 eight)) (rw passes (ap not (eq-eqb _ _ (share-size false)))))
+        neither-test (neither-test (ap not (eq-eqb _ _ (share-size false ∙ sym (share-size true)))) (ap not (eq-eqb _ 0 eight)))
+        (rw passes (ap not (eq-eqb _ _ (share-size false))))
 
     small : (b : Bool) → not (allBelow (numbers (shareFor s b q))) ≡ false
     small b = ap not (ap allBelow (numbers-are b) ∙ below-all (sum b) (sum-small b) (children ps))

@@ -14,7 +14,8 @@ use Rattle.group.specs.Modular.{field}
 use Rattle.query.specs.Query.{query, prefixLength, prefixCount, children}
 use Rattle.tree.specs.SearchRule.{start, searchList}
 use Rattle.idpf.specs.Share.{shareOutcome}
-use Rattle.combine.specs.Answer.{numbers, added, Answer, answerBytes, Kind, nextQuery, heavyList, searchEnded}
+use Rattle.shares.specs.ShareNumbers.{numbers, added}
+use Rattle.combine.specs.Answer.{Answer, answerBytes, Kind, nextQuery, heavyList, searchEnded}
 use Rattle.combine.specs.Combine.{combineAnswer, spaceCauses, combineOutcome, combineKind}
 use Rattle.search.specs.Search.{Lent, thresholdOf, reachesOf, total, searchNumber}
 

@@ -10,7 +10,7 @@ use lib.Pow.{pow-add}
 use lib.Arith.{mod-mul}
 use Rattle.places.specs.Places.{Bytes}
 use Rattle.places.proofs.Places.{bytes-tail, bytes-head}
-use Rattle.numbers.specs.Numbers.{little, fromLittle, big, fromBig}
+use Rattle.numbers.specs.Numbers.{little, fromLittle, big, fromBig, inBytes}
 
 pub little-length : (n x : ℕ) → length (little n x) ≡ n
 unfolding little
@@ -54,6 +54,11 @@ unfolding little
 little-append zero n x = rw (zero-add n, div-one x)
 little-append (suc m) n x =
     rw (suc-add m n, pow-succ' 256 m, ← div-div-eq-div-mul x 256 (256 ^ m)) (ap (λ (l : List ℕ). x % 256 ∷ l) (little-append m n (x / 256)))
+
+-- 8 bytes for each number
+pub inBytes-length : (xs : List ℕ) → length (inBytes xs) ≡ 8 * length xs
+inBytes-length [] = refl
+inBytes-length (x ∷ xs) = length-append (little 8 x) (inBytes xs) ∙ rw (little-length 8 x, inBytes-length xs) (omega arith)
 
 -- ---- most significant first
 

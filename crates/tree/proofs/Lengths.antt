@@ -4,13 +4,12 @@ use native.Mathlib.Omega.{arith}
 use native.Mathlib.Nat.{suc-mul, mul-le-mul, mul-le-mul-right, min-le-left, min-le-right, le-min, le-trans, pow-succ'}
 use mathlib.Core.Path.{_≡_, refl, ap₂, _∙_}
 use mathlib.Core.Bool.{Bool}
-use mathlib.Core.List.{List, [], _∷_}
-use lib.ListN.{length, length-append}
+use mathlib.Core.List.{List, [], _∷_, map}
+use lib.ListN.{length, length-append, length-map}
 use Rattle.places.specs.Lists.{select}
 use Rattle.bits.specs.Strings.{Bits, count}
-use Rattle.numbers.specs.Numbers.{little}
 use Rattle.bits.specs.Packing.{packedLength}
-use Rattle.numbers.proofs.Endian.{little-length}
+use Rattle.numbers.proofs.Endian.{inBytes-length}
 use Rattle.kept.specs.Kept.{reaches}
 use Rattle.query.specs.Query.{OfLength, packs, query, children}
 use Rattle.tree.specs.SearchRule.{start, totals, level, recordFrom, heading, headingLength, isKept, searchRecord, searchList}
@@ -25,8 +24,7 @@ use Rattle.tree.proofs.Totals.{heavy, Stands, stands-start, stands-kept
 -- ---- any totals
 
 pub totals-length : (T : Bits → ℕ) (qs : List Bits) → length (totals T qs) ≡ 8 * length qs
-totals-length T [] = refl
-totals-length T (q ∷ qs) = length-append (little 8 (T q)) (totals T qs) ∙ rw (little-length 8 (T q), totals-length T qs) (omega arith)
+totals-length T qs = inBytes-length (map T qs) ∙ rw (length-map qs T)
 
 -- What a level adds to the record.
 pub level-length : (T : Bits → ℕ) (k : ℕ) (qs : List Bits) → OfLength (suc k) qs → length (level T k qs) ≡ levelLength k (length qs)

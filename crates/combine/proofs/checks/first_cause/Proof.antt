@@ -4,8 +4,8 @@ use mathlib.Core.Bool.{true, false, _&&_}
 use borrow.Author.Needs.{needs}
 use borrow.Author.Tests.{not-true, not-false}
 use Rattle.calls.specs.Bounds.{mostBits, mostThreshold, outside}
-use Rattle.combine.specs.Answer.{numbers}
-use Rattle.combine.specs.Combine.{wrongShares, allBelow}
+use Rattle.shares.specs.ShareNumbers.{numbers, allBelow}
+use Rattle.combine.specs.Combine.{wrongShares}
 use Rattle.combine.proofs.Outcome.{cause-1, cause-2, cause-4, cause-6, cause-9, no-cause}
 use Rattle.combine.proofs.checks.first_cause.Statement.{statement}
 use Rattle.combine.proofs.checks.first_cause.Tie as tie

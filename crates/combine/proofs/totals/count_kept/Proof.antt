@@ -8,15 +8,16 @@ use borrow.Author.Needs.{needs}
 use lib.ListN.{length}
 use Rattle.places.specs.Lists.{howMany}
 use Rattle.kept.specs.Kept.{reachesBy}
+use Rattle.shares.proofs.Numbers.{addedFrom}
 use Rattle.combine.specs.Combine.{shareTotals}
-use Rattle.combine.proofs.Numbers.{totalsFrom, number-yes, number-no, number-none}
+use Rattle.combine.proofs.Numbers.{number-yes, number-no, number-none}
 use Rattle.combine.proofs.totals.count_kept.Statement.{statement}
 use Rattle.combine.proofs.totals.count_kept.Tie as tie
 
 abbrev Inv-loop : tie.InvT-loop
 Inv-loop rule share0 share1 left₀ place₀ count₀ left place count =
     (place + 8 * left ≤ length share0)
-    × (howMany (reachesBy rule) (shareTotals share0 share1) ≡ count + howMany (reachesBy rule) (totalsFrom share0 share1 left place))
+    × (howMany (reachesBy rule) (shareTotals share0 share1) ≡ count + howMany (reachesBy rule) (addedFrom share0 share1 left place))
     × (8 * (count + left) ≤ length share0)
 
 abbrev μ-loop : tie.MeasureT-loop
@@ -33,8 +34,8 @@ loop-again c =
     let r : l .place + 8 ≤ length (s .args .share1 .now) = omega (arith, s .pre) in
     let h : 0 < l .left = omega arith in
     let room : l .place + 8 ≤ length (s .args .share0 .now) = omega arith in
-    let yes = number-yes (s .args .share0 .now) (s .args .share1 .now) (l .left) (l .place) h room r (reachesBy (s .args .rule)) (k .result) (k .ensures) in
-    let no = number-no (s .args .share0 .now) (s .args .share1 .now) (l .left) (l .place) h room r (reachesBy (s .args .rule)) (k .result) (k .ensures) in (
+    let yes = number-yes (s .args .share0 .now) (s .args .share1 .now) (reachesBy (s .args .rule)) (l .left) (l .place) h room r (k .result) (k .ensures) in
+    let no = number-no (s .args .share0 .now) (s .args .share1 .now) (reachesBy (s .args .rule)) (l .left) (l .place) h room r (k .result) (k .ensures) in (
       omega arith,
       ⊎-elim (λ w. omega (arith, yes (w .0 .taken))) (λ w. omega (arith, no (w .0 .left))) (c .if1 .came),
       ⊎-elim (λ w. omega arith) (λ w. omega arith) (c .if1 .came),

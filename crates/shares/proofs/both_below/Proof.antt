@@ -1,8 +1,8 @@
--- `combine::checks::both_below` meets its contract. Assumes nothing.
+-- `shares::both_below` meets its contract. Assumes nothing.
 use borrow.Author.Needs.{needs}
 use borrow.Author.Tests.{not-true, not-false}
-use Rattle.combine.proofs.checks.both_below.Statement.{statement}
-use Rattle.combine.proofs.checks.both_below.Tie as tie
+use Rattle.shares.proofs.both_below.Statement.{statement}
+use Rattle.shares.proofs.both_below.Tie as tie
 
 returns : tie.Need-returns
 returns c = let b = c .before .all-below in rw (← b .ensures, not-true (b .result) (c .if1 .taken))

@@ -1,16 +1,15 @@
--- `combine::checks::all_below` meets its contract. The loop's invariant: what is left decides, and lies within. The measure is how many are left.
+-- `shares::all_below` meets its contract. The loop's invariant: what is left decides, and lies within. The measure is how many are left.
 -- Assumes nothing.
 use Prim.Native.Nat.{_+_, _*_, _≤_}
 use native.Mathlib.Omega.{arith}
 use mathlib.Core.Path.{_≡_, refl, sym, _∙_}
 use borrow.Author.Needs.{needs}
 use lib.ListN.{length}
-use Rattle.combine.specs.Answer.{numbers}
-use Rattle.combine.specs.Combine.{allBelow}
+use Rattle.shares.specs.ShareNumbers.{numbers, allBelow}
 use Rattle.query.proofs.Pieces.{numbersAt}
-use Rattle.combine.proofs.Numbers.{below-yes, below-no, below-none}
-use Rattle.combine.proofs.checks.all_below.Statement.{statement}
-use Rattle.combine.proofs.checks.all_below.Tie as tie
+use Rattle.shares.proofs.Numbers.{below-yes, below-no, below-none}
+use Rattle.shares.proofs.all_below.Statement.{statement}
+use Rattle.shares.proofs.all_below.Tie as tie
 
 abbrev Inv-loop : tie.InvT-loop
 Inv-loop share left₀ place₀ left place = (place + 8 * left ≤ length share) × (allBelow (numbers share) ≡ allBelow (numbersAt left place share))
