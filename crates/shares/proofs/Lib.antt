@@ -1,2 +1,4 @@
 pub mod Numbers
 pub mod Matching
+pub mod Sums
+pub mod AddOutcome

@@ -1,1 +1,2 @@
 pub mod ShareNumbers
+pub mod Add
