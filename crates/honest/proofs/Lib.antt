@@ -11,6 +11,7 @@ pub mod Making
 pub mod Room
 pub mod SoundShares
 pub mod Round
+pub mod Split
 pub mod Playing
 pub mod Loop
 pub mod Demand1

@@ -1,11 +1,11 @@
 -- Pieces of one length, one for each report, laid one after the other: how many bytes they are, and where each lies. Assumes nothing.
 use mathlib.Core.Path.{_≡_, refl, sym, ap, ap₂, _∙_}
 use mathlib.Core.List.{List, [], _∷_, _++_}
-use Prim.Native.Nat.{ℕ, zero, suc, _+_, _*_, _<_}
-use native.Mathlib.Nat.{mul-zero, mul-suc}
+use Prim.Native.Nat.{ℕ, zero, suc, _+_, _*_, _≤_, _<_}
+use native.Mathlib.Nat.{mul-zero, mul-suc, mul-add, mul-le-mul-left}
 use native.Mathlib.Omega.{arith}
 use lib.ListN.{length, getD, take, drop, length-append, length-drop, take-append-drop}
-use lib.Seq.{take-at, drop-at, drop-drop}
+use lib.Seq.{take-at, drop-at, drop-drop, take-append-le, drop-append-le, drop-append-add}
 use Rattle.places.specs.Lists.{All}
 use Rattle.point.specs.Totals.{Report}
 use Rattle.honest.proofs.Made.{oneByOne}
@@ -50,3 +50,16 @@ module _ (w : ℕ) (f : Report ℕ → List ℕ) where
       (pieces-whole rs d (drop w bytes) more (λ i k.
       let e : w + w * i ≡ w * suc i = omega (arith, mul-suc w i) in
       ap (take w) (drop-drop (w * i) w bytes ∙ ap (λ (j : ℕ). drop j bytes) e) ∙ h (suc i) (omega arith)))
+
+-- of the pieces of two lists laid together, C of them in the first, those of the first come first, and then those of the second
+module _ (w i C : ℕ) (s t : List ℕ) (l : length s ≡ w * C) where
+  pub laid-first : i < C → take w (drop (w * i) (s ++ t)) ≡ take w (drop (w * i) s)
+  laid-first h =
+      let inside : w * i + w ≤ length s = omega (arith, mul-le-mul-left w h, mul-suc w i) in
+      let room : w ≤ length (drop (w * i) s) = omega (arith, length-drop (w * i) s) in
+      ap (take w) (drop-append-le (w * i) s t (omega arith)) ∙ take-append-le w (drop (w * i) s) t room
+
+  pub laid-second : take w (drop (w * (C + i)) (s ++ t)) ≡ take w (drop (w * i) t)
+  laid-second =
+      let e : w * (C + i) ≡ length s + w * i = mul-add w C i ∙ ap (λ (m : ℕ). m + w * i) (sym l) in
+      ap (λ (m : ℕ). take w (drop m (s ++ t))) e ∙ ap (take w) (drop-append-add s t (w * i))

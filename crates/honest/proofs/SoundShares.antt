@@ -30,7 +30,7 @@ use Rattle.search.specs.Search.{Lent, totalUnder, total}
 use Rattle.search.proofs.Outcome.{Whole}
 
 -- a sum in the group is below p
-sum-below : (test : ℕ → Bool) (m : ℕ) (f : ℕ → ℕ) → sumWhere field test m f < p
+pub sum-below : (test : ℕ → Bool) (m : ℕ) (f : ℕ → ℕ) → sumWhere field test m f < p
 unfolding sumWhere
 sum-below test zero f = omega arith
 sum-below test (suc m) f = go (test m) (sum-below test m f)
