@@ -27,7 +27,7 @@ use Rattle.exam_answering.proofs.ExamTheorems as exam
 use Rattle.exam_answering.proofs.Outputs as outputs
 use Rattle.capi.specs.Block.{blockCauses, blockOutcome}
 use Rattle.capi.proofs.Block.{block-due}
-use Rattle.demands.specs.Calls.{BlockLent, SearchLent, makeKey, serverShare, combining, wholeSearch, examAnswer, refusedLine, examOutput, oneBlock, Result, into, causes, InOrder, result}
+use Rattle.demands.specs.Calls.{BlockLent, SearchLent, makeKey, serverShare, addShares, combining, wholeSearch, examAnswer, refusedLine, examOutput, oneBlock, Result, into, causes, InOrder, result}
 use Rattle.demands.specs.Demands.{AfterRefusal, AfterSuccess, Demand1}
 
 -- what demand 1 says of a call with the causes cs
@@ -126,6 +126,10 @@ demand-1 (serverShare l) =
     one (causes (serverShare l)) (omega arith & omega arith & omega arith & omega arith & omega arith & omega arith & omega arith & tt) (l .out) none _ same
     (call.share-refused (l .n) (l .expander) (l .server) (l .seeds) (l .publicShares) (l .query) (l .out)) (λ h. refl)
     (λ h. let w = call.share-written (l .n) (l .expander) (l .server) (l .seeds) (l .publicShares) (l .query) (l .out) h in rw (w .0) (w .1))
+demand-1 (addShares l) =
+    one (causes (addShares l)) (omega arith & omega arith & tt) (l .out) none _ (call.add-number (l .share0) (l .share1) (l .out))
+    (call.add-refused (l .share0) (l .share1) (l .out)) (λ h. refl)
+    (λ h. let w = call.add-written (l .share0) (l .share1) (l .out) h in rw (w .0) (w .1))
 demand-1 (combining l) =
     let same = call.combine-number (l .n) (l .t) (l .query) (l .share0) (l .share1) (l .out) (l .bytes .0) in
     let refused = call.combine-refused (l .n) (l .t) (l .query) (l .share0) (l .share1) (l .out) in

@@ -11,6 +11,7 @@ use Rattle.calls.specs.Causes.{Cause}
 use Rattle.calls.specs.Outcome.{Outcome, exit}
 use Rattle.keymaker.specs.Key.{keyCauses, keyOutcome}
 use Rattle.idpf.specs.Share.{shareCauses, shareOutcome}
+use Rattle.shares.specs.Add.{addCauses, addOutcome}
 use Rattle.combine.specs.Answer.{Kind}
 use Rattle.combine.specs.Combine.{combineCauses, combineOutcome, combineKind}
 use Rattle.search.specs.Search.{Lent, searchCauses, searchNumber, recordLength, listLength, recordAfter, listAfter}
@@ -41,6 +42,13 @@ pub record ShareLent : Type 0 where
   pub query : List ℕ
   pub out : List ℕ
   pub bytes : All AreBytes (seeds ∷ publicShares ∷ query ∷ out ∷ [])
+
+-- Two shares of one server, to be added.
+pub record AddLent : Type 0 where
+  pub share0 : List ℕ
+  pub share1 : List ℕ
+  pub out : List ℕ
+  pub bytes : All AreBytes (share0 ∷ share1 ∷ out ∷ [])
 
 -- Combining two shares for a query.
 pub record CombineLent : Type 0 where
@@ -79,10 +87,11 @@ pub record BlockLent : Type 0 where
 
 -- ---- the calls
 
--- `make_key`, `share`, `combine` and `search`; `answer`, `refused_line` and `respond` of the exam; `tally_block`.
+-- `make_key`, `share`, `add_shares`, `combine` and `search`; `answer`, `refused_line` and `respond` of the exam; `tally_block`.
 pub data Call : Type 0 where
   makeKey : KeyLent → Call
   serverShare : ShareLent → Call
+  addShares : AddLent → Call
   combining : CombineLent → Call
   wholeSearch : SearchLent → Call
   examAnswer : TextLent → Call
@@ -94,6 +103,7 @@ pub data Call : Type 0 where
 abbrev pub causes : Call → List Cause
 causes (makeKey l) = keyCauses (l .n) (l .expander) (l .string) (l .seed0) (l .seed1) (length (l .out))
 causes (serverShare l) = shareCauses (l .n) (l .expander) (l .seeds) (l .publicShares) (l .query) (length (l .out))
+causes (addShares l) = addCauses (l .share0) (l .share1) (length (l .out))
 causes (combining l) = combineCauses (l .n) (l .t) (l .query) (l .share0) (l .share1) (length (l .out))
 causes (wholeSearch l) = searchCauses (l .lent)
 causes (examAnswer l) = examCauses (l .text) (length (l .out))
@@ -133,11 +143,12 @@ into out kind o =
     let x = exit o out in
     record { number = x .number; areas = record { entry = out; exit = x .area; returned = x .length; isRecord = false } ∷ []; kind = kind }
 
--- what the contracts say of number, lengths and areas: `keyExit`, `shareExit`, `combineExit`, `searchEnding`, `examExit` and `blockExit` are these, part by
--- part: `exit` of the same outcomes, and the search's own
+-- what the contracts say of number, lengths and areas: `keyExit`, `shareExit`, `addExit`, `combineExit`, `searchEnding`, `examExit` and `blockExit` are
+-- these, part by part: `exit` of the same outcomes, and the search's own
 abbrev pub result : Call → Result
 result (makeKey l) = into (l .out) none (keyOutcome (l .n) (l .expander) (l .string) (l .seed0) (l .seed1) (length (l .out)))
 result (serverShare l) = into (l .out) none (shareOutcome (l .n) (l .expander) (l .server) (l .seeds) (l .publicShares) (l .query) (length (l .out)))
+result (addShares l) = into (l .out) none (addOutcome (l .share0) (l .share1) (length (l .out)))
 result (combining l) =
     into (l .out) (combineKind (l .n) (l .t) (l .query) (l .share0) (l .share1) (length (l .out)))
     (combineOutcome (l .n) (l .t) (l .query) (l .share0) (l .share1) (length (l .out)))

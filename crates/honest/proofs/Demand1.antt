@@ -20,6 +20,8 @@ use Rattle.idpf.specs.Share.{shareCauses, shareOutcome}
 use Rattle.keymaker.proofs.KeyCauses.{nothing-written}
 use Rattle.keymaker.proofs.KeyTheorems.{key-due}
 use Rattle.idpf.proofs.ShareDue.{share-due}
+use Rattle.shares.specs.Add.{addCauses, addOutcome}
+use Rattle.shares.proofs.AddOutcome as add
 use Rattle.combine.specs.Answer.{next, list, ended, kind}
 use Rattle.combine.specs.Combine.{combineAnswer, combineBytes, combineCauses, combineOutcome, combineKind}
 use Rattle.combine.proofs.CombineDue.{combine-due}
@@ -86,6 +88,33 @@ module _ (n e : ℕ) (b : Bool) (seeds shares query area : List ℕ) where
   share-written h =
       let r = share-room n e b seeds shares query (length area) h in
       (r .0, r .1, ap (λ (m : ℕ). answer .written ++ drop m area) (r .0))
+
+-- ---- two shares of one server added, with the space `area` for their sums
+
+module _ (share0 share1 area : List ℕ) where
+  abbrev sums : Outcome
+  sums = addOutcome share0 share1 (length area)
+
+  -- Its number is due, and no other is.
+  pub add-number : Due (addCauses share0 share1 (length area)) (sums .number)
+      × ((k : ℕ) → Due (addCauses share0 share1 (length area)) k → k ≡ sums .number)
+  add-number =
+      let d = add.add-due share0 share1 (length area) in
+      (d, λ k h. due-unique (addCauses share0 share1 (length area)) h d)
+
+  -- A refusal writes nothing, so that its length is 0, and leaves the space as it was.
+  pub add-refused : sums .number ≢ 0 → (sums .written ≡ []) × (overlay (sums .written) area ≡ area)
+  add-refused h = let none-written = add.nothing-written share0 share1 (length area) h in (none-written, unchanged none-written)
+
+  -- Where it succeeds, what it writes is as long as either share and fits, and the bytes past it are as they were.
+  pub add-written : sums .number ≡ 0
+      → (length (sums .written) ≡ length share0) × (length share0 ≤ length area)
+      × (overlay (sums .written) area ≡ sums .written ++ drop (length share0) area)
+  unfolding overlay
+  add-written h =
+      let r = add.ready share0 share1 (length area) h in
+      let size : length (sums .written) ≡ length share0 = ap (λ (o : Outcome). length (o .written)) (r .outcome) ∙ r .size in
+      (size, r .fits, ap (λ (m : ℕ). sums .written ++ drop m area) size)
 
 -- ---- combining two shares for a query, with the space `area` for its answer
 
