@@ -1,7 +1,8 @@
 // Vembuzsa's functions for C and C++: the calls of the proved library libcapi.a.
 //
 // An installation makes the public share of its string with tally_key and gives each server one of its two seeds and the public
-// share. For a query each server makes its share with tally_share. A collector turns two shares into the next query or the list with
+// share. For a query each server makes its share with tally_share; where many machines share a server's work, each makes that of its own
+// reports, and tally_add adds them. A collector turns two shares into the next query or the list with
 // tally_combine. tally_search does the whole search where one program holds both servers' reports. tally_exam does all of it for an exam text.
 //
 // What every call does:
@@ -201,6 +202,15 @@ tally_reply tally_share(uint64_t n, uint64_t expander, bool server,
                         const uint8_t *public_shares, size_t public_shares_length,
                         const uint8_t *query, size_t query_length,
                         uint8_t *share, size_t share_length);
+
+// Writes the sum of two shares of one server for one query: for each prefix in order the sum of its two numbers modulo p. Where they are what
+// tally_share writes for two lists of reports, with at most 65,535 reports together, it is what tally_share writes for both laid together.
+// Reads: both shares, 8 bytes for each prefix.
+// Writes: as many bytes of out as either share has.
+// Refuses with 4, the shares' lengths differ or are no multiple of 8; 6; 11.
+tally_reply tally_add(const uint8_t *share0, size_t share0_length,
+                      const uint8_t *share1, size_t share1_length,
+                      uint8_t *out, size_t out_length);
 
 // Turns two servers' shares for a query into an answer. A prefix is kept when its total, the sum of its two numbers modulo p, is at least t.
 // Kinds: TALLY_KIND_NEXT, the next query with both children of each kept prefix; TALLY_KIND_LIST, at length n the list of kept strings,

@@ -5,8 +5,8 @@
 
 use std::error::Error;
 use tally::{
-    block, combine, make_key, prefix_bits, prefixes, search, share, strings, totals, Answer,
-    Expander, Found, Refusal, Reports, Seed, Server, FIRST_QUERY,
+    add_shares, block, combine, make_key, prefix_bits, prefixes, public_share_length, search,
+    share, strings, totals, Answer, Expander, Found, Refusal, Reports, Seed, Server, FIRST_QUERY,
 };
 
 /// The string length and the threshold.
@@ -47,8 +47,19 @@ impl Holder {
         }
     }
 
+    /// Two machines share the server's work: each answers for half of the reports, and their answers are added.
     fn answer(&self, query: &[u8]) -> Result<Vec<u8>, Refusal> {
-        share(N, Expander::Aes, self.server, self.reports(), query)
+        let half = self.seeds.len() / 2;
+        let seeds = self.seeds.split_at(half);
+        let shares = self.public_shares.split_at(half * public_share_length(N));
+        let of = |seeds, public_shares| {
+            let reports = Reports {
+                seeds,
+                public_shares,
+            };
+            share(N, Expander::Aes, self.server, reports, query)
+        };
+        add_shares(&of(seeds.0, shares.0)?, &of(seeds.1, shares.1)?)
     }
 }
 

@@ -1,9 +1,9 @@
 //! Safe functions over Vembuzsa's proved library: a prefix tally with two servers.
 //!
 //! Each installation makes the public share of its string with [`make_key`] and gives each server one of its two seeds and the public share. For
-//! a query each server makes its [`share`]. A collector [`combine`]s two shares into the next query, or at last into the list of strings that
-//! at least t installations hold. [`search`] does all of it where one program holds both servers' reports. [`exam`](exam()) does it for an exam
-//! text.
+//! a query each server makes its [`share`]; where many machines share a server's work, each makes that of its own reports, and [`add_shares`]
+//! adds them. A collector [`combine`]s two shares into the next query, or at last into the list of strings that at least t installations hold.
+//! [`search`] does all of it where one program holds both servers' reports. [`exam`](exam()) does it for an exam text.
 //!
 //! Each call has two forms. One returns its bytes; the other, whose name ends in `_into`, writes into lent space and returns how many bytes it
 //! wrote; bytes past them are unchanged. [`public_share_length`], [`share_length`], [`answer_space`], [`record_space`],
@@ -358,6 +358,43 @@ pub fn share_into(
         query,
         out,
     );
+    accepted(reply.number, reply.length, out.len())
+}
+
+/// The sum of two shares of one server for one query, number by number modulo p: where they are its shares of two lists of reports, with at
+/// most 65,535 reports together, it is the share of both lists laid together.
+///
+/// Refuses with 4 or 6.
+///
+/// ```
+/// use tally::{add_shares, make_key, share, Expander, Refusal, Reports, Server, FIRST_QUERY};
+///
+/// let key = make_key(1, Expander::Aes, &[0x80], &[1; 16], &[2; 16])?;
+/// let one = Reports { seeds: &[[1; 16]], public_shares: &key };
+/// let both = Reports { seeds: &[[1; 16]; 2], public_shares: &key.repeat(2) };
+/// let of = |reports| share(1, Expander::Aes, Server::Zero, reports, &FIRST_QUERY);
+/// assert_eq!(add_shares(&of(one)?, &of(one)?)?, of(both)?);
+/// # Ok::<(), Refusal>(())
+/// ```
+pub fn add_shares(share0: &[u8], share1: &[u8]) -> Result<Vec<u8>, Refusal> {
+    written(share0.len(), |out| add_shares_into(share0, share1, out))
+}
+
+/// Writes the sum of two shares of one server for one query into as many bytes of `out` as either has, and returns how many that is.
+///
+/// Refuses with 4, 6 or 11.
+///
+/// ```
+/// use tally::{add_shares_into, Refusal, GROUP_ORDER};
+///
+/// let mut out = [7; 9];
+/// let (share0, share1) = ((GROUP_ORDER - 1).to_le_bytes(), 3u64.to_le_bytes());
+/// assert_eq!(add_shares_into(&share0, &share1, &mut out)?, 8);
+/// assert_eq!(out, [2, 0, 0, 0, 0, 0, 0, 0, 7]);
+/// # Ok::<(), Refusal>(())
+/// ```
+pub fn add_shares_into(share0: &[u8], share1: &[u8], out: &mut [u8]) -> Result<usize, Refusal> {
+    let reply = tally_sys::add(share0, share1, out);
     accepted(reply.number, reply.length, out.len())
 }
 

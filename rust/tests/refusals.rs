@@ -1,10 +1,10 @@
 //! Every cause of refusal met through the crate, and what a refusal leaves.
 
 use tally::{
-    answer_space, block_into, combine, combine_into, list_space, make_key, make_key_into,
-    public_share_length, query_length, record_space, search, search_into, share, share_into,
-    share_length, Answer, Expander, Refusal, Reports, Seed, Server, BITS_MOST, FIRST_QUERY,
-    GROUP_ORDER, PREFIXES_MOST, REPORTS_MOST, THRESHOLD_MOST,
+    add_shares, add_shares_into, answer_space, block_into, combine, combine_into, list_space,
+    make_key, make_key_into, public_share_length, query_length, record_space, search, search_into,
+    share, share_into, share_length, Answer, Expander, Refusal, Reports, Seed, Server, BITS_MOST,
+    FIRST_QUERY, GROUP_ORDER, PREFIXES_MOST, REPORTS_MOST, THRESHOLD_MOST,
 };
 
 const AES: Expander = Expander::Aes;
@@ -78,6 +78,9 @@ fn refusal_4_input_length() {
     assert_eq!(combined, Err(refused));
     let combined = combine(1, 1, &FIRST_QUERY, &[0; 8], &[0; 8]);
     assert_eq!(combined, Err(refused));
+    assert_eq!(add_shares(&[0; 16], &[0; 8]), Err(refused));
+    assert_eq!(add_shares(&[0; 12], &[0; 12]), Err(refused));
+    assert_eq!(add_shares(&[], &[]), Ok(vec![]));
     assert_eq!(search(1, 1, AES, reports(&key), NONE), Err(refused));
 }
 
@@ -104,6 +107,9 @@ fn refusal_6_group_number() {
     assert_eq!(found, Err(refused));
     let combined = combine(1, 1, &FIRST_QUERY, &[0xff; 16], &[0; 16]);
     assert_eq!(combined, Err(refused));
+    let p = GROUP_ORDER.to_le_bytes();
+    assert_eq!(add_shares(&p, &[0; 8]), Err(refused));
+    assert_eq!(add_shares(&[0; 8], &p), Err(refused));
 }
 
 #[test]
@@ -161,6 +167,10 @@ fn refusal_11_space() {
     assert_eq!(made, refused);
     let by = share_into(1, AES, Server::Zero, NONE, &FIRST_QUERY, &mut space[..15]);
     assert_eq!(by, refused);
+    assert_eq!(
+        add_shares_into(&[1; 16], &[0; 16], &mut space[..15]),
+        refused
+    );
     let shares = ([1, 0, 0, 0, 0, 0, 0, 0].repeat(2), [0; 16]);
     let combined = combine_into(2, 1, &FIRST_QUERY, &shares.0, &shares.1, &mut space[..9]);
     assert_eq!(combined, Err(Refusal::Space));

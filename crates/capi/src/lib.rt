@@ -11,6 +11,7 @@ ghost use Rattle.exam_answering.specs.Exam.{examExit};
 ghost use Rattle.keymaker.specs.Key.{keyExit};
 ghost use Rattle.idpf.specs.Share.{shareExit};
 ghost use Rattle.search.specs.Search.{lent, searchEnding, returned};
+ghost use Rattle.shares.specs.Add.{addExit};
 
 // Writes block j of a seed of 16 bytes; refuses with 3, 4 or 11.
 #[no_mangle]
@@ -77,6 +78,14 @@ pub extern "C" fn tally_share(
         (now (share .entry)) ⌝ }
 {
     idpf::share(n, expander, server, seeds, public_shares, query, share)
+}
+
+// Writes the sum, number by number, of two shares of one server for one query; refuses with 4, 6 or 11.
+#[no_mangle]
+pub extern "C" fn tally_add(share0: &[u8], share1: &[u8], out: &mut [u8]) -> Reply
+    ensures { λ r. ⌜ left r (now (out .exit)) ≡ addExit (now (share0 .entry)) (now (share1 .entry)) (now (out .entry)) ⌝ }
+{
+    shares::add_shares(share0, share1, out)
 }
 
 // What combining returns: the number of the cause that refused it, or 0; the kind of its answer, 0 for a refusal, 1 for the next query, 2 for the

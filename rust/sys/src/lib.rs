@@ -73,6 +73,15 @@ mod library {
             share_length: usize,
         ) -> Reply;
 
+        pub fn tally_add(
+            share0: *const u8,
+            share0_length: usize,
+            share1: *const u8,
+            share1_length: usize,
+            out: *mut u8,
+            out_length: usize,
+        ) -> Reply;
+
         pub fn tally_combine(
             n: u64,
             t: u64,
@@ -181,6 +190,22 @@ pub fn share(
             query.len(),
             share.as_mut_ptr(),
             share.len(),
+        )
+    }
+}
+
+/// The sum of two shares of one server for one query, into `out`.
+#[inline]
+pub fn add(share0: &[u8], share1: &[u8], out: &mut [u8]) -> Reply {
+    // SAFETY: each pointer and length come from one live slice, and `out` is borrowed mutably.
+    unsafe {
+        library::tally_add(
+            share0.as_ptr(),
+            share0.len(),
+            share1.as_ptr(),
+            share1.len(),
+            out.as_mut_ptr(),
+            out.len(),
         )
     }
 }
