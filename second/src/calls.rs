@@ -1,4 +1,5 @@
-//! The calls that write one space: a block, a key, a share. The judge gives the number.
+//! The calls that write one space: a block, a key, a share, the sum of two shares. The judge gives
+//! the number.
 
 use crate::expander::Expander;
 use crate::query::{unpack, Query};
@@ -34,7 +35,7 @@ pub fn block(expander: u64, seed: &[u8], j: u64, block: &mut [u8]) -> Reply {
     })
 }
 
-/// The number with which a block refuses, or 0; it is none of the judge's four calls.
+/// The number with which a block refuses, or 0; it is none of the judge's calls.
 fn block_judged(expander: u64, seed: &[u8], space: usize) -> u64 {
     if expander != 1 && expander != 2 {
         return 3;
@@ -86,6 +87,16 @@ pub fn share(
         };
         let sums = reports.sums(Expander::of(expander), server, &Query::of(query));
         sums.into_iter().flat_map(field::write).collect()
+    })
+}
+
+/// Writes the sum of two shares of one server, place by place.
+pub fn add_shares(share0: &[u8], share1: &[u8], out: &mut [u8]) -> Reply {
+    let number = judge::add(share0, share1, out.len());
+    Reply::settle(number, out, || {
+        let pairs = share0.chunks(8).zip(share1.chunks(8));
+        let sums = pairs.map(|(a, b)| field::add(field::read(a), field::read(b)));
+        sums.flat_map(field::write).collect()
     })
 }
 

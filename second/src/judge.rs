@@ -1,4 +1,5 @@
-//! The number with which each of document 01's four calls refuses, or 0.
+//! The number with which each of document 01's four calls refuses, or 0; so too for adding two
+//! shares of one server, which document 01 does not have.
 
 /// The group's modulus p.
 pub const P: u64 = 18_446_744_069_414_584_321;
@@ -293,6 +294,22 @@ pub fn combine(n: u64, t: u64, query: &[u8], share0: &[u8], share1: &[u8], space
             .and_then(|next| query_bytes(prefix_length + 1, next))
     };
     if !fits(written, space) {
+        return 11;
+    }
+    0
+}
+
+/// The number with which adding two shares of one server refuses, or 0.
+#[must_use]
+pub fn add(share0: &[u8], share1: &[u8], space: usize) -> u64 {
+    let Some(count) = whole_count(share0, NUMBER_BYTES).filter(|_| share0.len() == share1.len())
+    else {
+        return 4;
+    };
+    if !share_numbers_in_group(share0) || !share_numbers_in_group(share1) {
+        return 6;
+    }
+    if !fits(share_bytes(count), space) {
         return 11;
     }
     0

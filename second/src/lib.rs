@@ -18,7 +18,7 @@ pub mod rng;
 pub mod search;
 pub mod share;
 
-pub use calls::{block, key, share};
+pub use calls::{add_shares, block, key, share};
 pub use combine::combine;
 pub use exam::{exam, exam_into};
 pub use search::search;
