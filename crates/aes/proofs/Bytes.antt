@@ -1,4 +1,4 @@
--- The cipher gives 16 elements, each below 256 where those of the key are. Assumes nothing.
+-- The cipher gives 16 elements, each below 256 where those of the key are.
 use mathlib.Core.Path.{_≡_, refl}
 use mathlib.Core.Bool.{Bool}
 use mathlib.Core.List.{List, [], _∷_, _++_, map}

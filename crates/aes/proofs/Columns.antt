@@ -1,4 +1,4 @@
--- The bytes of a word that is doubled byte by byte, and of a mixed column. Assumes nothing.
+-- The bytes of a word that is doubled byte by byte, and of a mixed column.
 use mathlib.Core.Path.{_≡_, sym, ap, ap₂, _∙_}
 use mathlib.Core.List.{List, map}
 use Prim.Native.Nat.{ℕ, _+_, _*_, _/_, _%_, _^_, _<_}

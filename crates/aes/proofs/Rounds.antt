@@ -1,4 +1,4 @@
--- The key schedule and the rounds of the cipher, step by step. Assumes nothing.
+-- The key schedule and the rounds of the cipher, step by step.
 use mathlib.Core.Path.{_≡_, refl, sym, ap, ap₂, _∙_}
 use mathlib.Core.List.{List}
 use Prim.Native.Nat.{ℕ, _+_}

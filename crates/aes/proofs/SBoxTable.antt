@@ -1,4 +1,4 @@
--- The S-box as a table is the affine map at each of the 256 inverses. Assumes nothing.
+-- The S-box as a table is the affine map at each of the 256 inverses.
 use mathlib.Core.Path.{_≡_, ap, _∙_}
 use mathlib.Core.List.{map}
 use Prim.Native.Nat.{ℕ, _<_}

@@ -1,4 +1,4 @@
--- The bytes of a number that is packed from four bytes, rotated, or added to another. Assumes nothing.
+-- The bytes of a number that is packed from four bytes, rotated, or added to another.
 use mathlib.Core.Path.{_≡_, sym, ap, _∙_}
 use mathlib.Core.List.{[], _∷_}
 use Prim.Native.Nat.{ℕ, _+_, _*_, _/_, _%_, _^_, _<_}

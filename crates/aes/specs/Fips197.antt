@@ -1,5 +1,5 @@
 -- AES-128 by FIPS 197, section 5. A block, a key and a state are lists of 16 bytes, of which byte r + 4 c stands in row r, column c of the state
--- (section 3.4). A word is a list of 4 bytes. Assumes nothing.
+-- (section 3.4). A word is a list of 4 bytes.
 use mathlib.Core.List.{List, [], _∷_, _++_, map}
 use Prim.Native.Nat.{ℕ, zero, suc, _+_, _-_, _*_, _/_, _%_, _^_}
 use lib.ListN.{getD, take, drop}

@@ -1,4 +1,4 @@
--- The bytes of a word and of a state, in their order. Assumes nothing.
+-- The bytes of a word and of a state, in their order.
 use mathlib.Core.List.{List, [], _∷_, _++_}
 use Prim.Native.Nat.{ℕ, _/_, _%_}
 use Rattle.aes.specs.declared.word.Word.{Word}

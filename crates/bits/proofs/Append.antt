@@ -1,4 +1,4 @@
--- A packed string with one bit more, byte by byte. Assumes nothing.
+-- A packed string with one bit more, byte by byte.
 use Prim.Native.Nat.{ℕ, zero, suc, _+_, _-_, _*_, _/_, _%_, _^_, _≤_, _<_}
 use native.Mathlib.Omega.{arith}
 use mathlib.Core.Path.{_≡_, refl, sym, ap, ap₂, _∙_}

@@ -1,4 +1,4 @@
--- A prefix with one bit more, packed: its whole bytes as they are, and a last byte of the bits that are left and the bit. Assumes nothing.
+-- A prefix with one bit more, packed: its whole bytes as they are, and a last byte of the bits that are left and the bit.
 use Prim.Native.Nat.{ℕ, zero, suc, _+_, _-_, _*_, _/_, _%_, _^_, _≤_, _<_}
 use native.Mathlib.Omega.{arith}
 use native.Mathlib.Numerals.{add-one}

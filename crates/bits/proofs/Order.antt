@@ -1,4 +1,4 @@
--- The order of bit strings, and of packed strings of one length. Assumes nothing.
+-- The order of bit strings, and of packed strings of one length.
 use Prim.Native.Nat.{ℕ, zero, suc, _+_, _-_, _*_, _^_, _≤_, _<_}
 use native.Mathlib.Omega.{arith}
 use native.Mathlib.Nat.{suc-inj, suc-ne-zero}

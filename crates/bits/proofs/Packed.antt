@@ -1,4 +1,4 @@
--- A packed string is read back, and bytes without spare bits are packed again. Assumes nothing.
+-- A packed string is read back, and bytes without spare bits are packed again.
 use Prim.Native.Nat.{ℕ, zero, suc, _+_, _-_, _*_, _/_, _%_, _^_, _≤_, _<_}
 use native.Mathlib.Omega.{arith}
 use native.Mathlib.Nat.{zero-div, mod-eq-of-lt, mul-assoc, pow-succ', mul-add-div-right, mul-add-mod-self-right, div-eq-of-lt}

@@ -1,5 +1,5 @@
 -- Spare bits: what it is that one of them is set; and byte by byte: a remainder tests those in the byte that holds bit n, and all bytes after
--- it are zero. Assumes nothing.
+-- it are zero.
 use Prim.Native.Nat.{ℕ, zero, suc, _+_, _-_, _*_, _/_, _%_, _^_, _≤_, _<_}
 use native.Mathlib.Omega.{arith}
 use native.Mathlib.Nat.{mod-eq-of-lt, pow-succ', suc-add, zero-add}

@@ -1,4 +1,4 @@
--- A bit string as bytes: in the fewest bytes, first bit highest, spare bits zero. Assumes nothing.
+-- A bit string as bytes: in the fewest bytes, first bit highest, spare bits zero.
 use Prim.Native.Nat.{ℕ, zero, suc, _+_, _*_, _/_, _%_, _^_}
 use mathlib.Core.Bool.{Bool, true, false, _&&_, _||_, not}
 use mathlib.Core.List.{List, [], _∷_, _++_}

@@ -1,4 +1,4 @@
--- Bit strings, first bit first. A prefix is a bit string too. Assumes nothing.
+-- Bit strings, first bit first. A prefix is a bit string too.
 use Prim.Native.Nat.{ℕ}
 use mathlib.Core.Bool.{Bool, true, false, _&&_, Bool·beq}
 use mathlib.Core.List.{List, [], _∷_, _++_}

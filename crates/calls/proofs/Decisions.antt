@@ -1,4 +1,4 @@
--- Tests and what they decide: alternatives, numbers that differ, and a number outside its bounds. Assumes nothing.
+-- Tests and what they decide: alternatives, numbers that differ, and a number outside its bounds.
 use Prim.Native.Nat.{ℕ, _≤_, _<_}
 use mathlib.Core.Path.{_≡_, refl}
 use mathlib.Core.Bool.{Bool, true, false, not, true≢false, _||_}

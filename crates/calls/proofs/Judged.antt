@@ -1,5 +1,5 @@
 -- Where tests decide their causes one by one, the number is the one that is due, and no other is; the number due of two lists of causes; what a
--- refusal and a success write. Assumes nothing.
+-- refusal and a success write.
 use Prim.Native.Nat.{ℕ, _≤_}
 use native.Mathlib.Omega.{arith}
 use mathlib.Core.Path.{_≡_, refl, sym, ap, _∙_}

@@ -1,4 +1,4 @@
--- What several calls ask of what they are lent, and the causes where it is not so. Assumes nothing.
+-- What several calls ask of what they are lent, and the causes where it is not so.
 use Prim.Native.Nat.{ℕ, _<_}
 use mathlib.Core.Bool.{Bool, not, _||_}
 use mathlib.Core.Logic.{_≢_, _⊎_}

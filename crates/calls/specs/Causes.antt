@@ -1,4 +1,4 @@
--- What a call refuses with, and which number is due: document 01, 'Causes of refusal'. Assumes nothing.
+-- What a call refuses with, and which number is due: document 01, 'Causes of refusal'.
 use Prim.Native.Nat.{ℕ}
 use mathlib.Core.Path.{_≡_}
 use mathlib.Core.Bool.{Bool, cond}

@@ -1,4 +1,4 @@
--- What a call that writes into one lent space returns, and what it leaves there: document 01, 'Causes of refusal'. Assumes nothing.
+-- What a call that writes into one lent space returns, and what it leaves there: document 01, 'Causes of refusal'.
 use Prim.Native.Nat.{ℕ}
 use mathlib.Core.Bool.{cond}
 use mathlib.Core.List.{List, [], _∷_}

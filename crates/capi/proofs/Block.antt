@@ -1,4 +1,4 @@
--- The outcome of `tally_block`, case by case, and that its number is the one that is due. Assumes nothing.
+-- The outcome of `tally_block`, case by case, and that its number is the one that is due.
 use Prim.Native.Nat.{ℕ, _≤_, _<_}
 use mathlib.Core.Path.{_≡_}
 use mathlib.Core.Bool.{not}

@@ -1,4 +1,4 @@
--- What combining returns, as C reads it. Assumes nothing.
+-- What combining returns, as C reads it.
 use Prim.Native.Nat.{ℕ}
 use mathlib.Core.Path.{_≡_, sym, ap, _∙_}
 use mathlib.Core.List.{List}

@@ -1,4 +1,4 @@
--- The call `tally_block`: one block of a seed, for those who compare expanders. Assumes nothing.
+-- The call `tally_block`: one block of a seed, for those who compare expanders.
 use Prim.Native.Nat.{ℕ}
 use mathlib.Core.Bool.{not}
 use mathlib.Core.List.{List, [], _∷_}

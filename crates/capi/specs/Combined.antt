@@ -1,4 +1,4 @@
--- The kinds of combining's answers as C reads them. Assumes nothing.
+-- The kinds of combining's answers as C reads them.
 use Prim.Native.Nat.{ℕ}
 use mathlib.Core.List.{List}
 use mathlib.Core.Option.{Option, none, some}

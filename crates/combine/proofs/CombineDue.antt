@@ -1,4 +1,4 @@
--- The number that `combine` returns is the one that is due, where the query is bytes. Assumes nothing.
+-- The number that `combine` returns is the one that is due, where the query is bytes.
 use Prim.Native.Nat.{ℕ, _*_, _<_}
 use mathlib.Core.Path.{_≡_, sym, _∙_}
 use mathlib.Core.Bool.{Bool, true, false, not, true≢false, _&&_, _||_}

@@ -1,4 +1,4 @@
--- The next query that `combine` writes passes 9. Assumes nothing.
+-- The next query that `combine` writes passes 9.
 use Prim.Native.Nat.{ℕ, _≤_, _<_}
 use native.Mathlib.Omega.{arith}
 use mathlib.Core.Path.{_≡_, refl, ap, _∙_}

@@ -1,4 +1,4 @@
--- How many totals of two shares pass a test, one total after the other: how a loop over them goes on. Assumes nothing.
+-- How many totals of two shares pass a test, one total after the other: how a loop over them goes on.
 use Prim.Native.Nat.{ℕ, _+_, _-_, _≤_, _<_}
 use native.Mathlib.Omega.{arith}
 use mathlib.Core.Path.{_≡_, _∙_}

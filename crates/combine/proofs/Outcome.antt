@@ -1,4 +1,4 @@
--- The outcome of `combine`, case by case. Assumes nothing.
+-- The outcome of `combine`, case by case.
 use Prim.Native.Nat.{ℕ, _<_}
 use native.Mathlib.Omega.{arith}
 use mathlib.Core.Path.{_≡_, refl, sym, ap, _∙_}

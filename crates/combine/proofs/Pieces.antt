@@ -1,4 +1,4 @@
--- The kept prefixes of a query, one after the other, with their totals from two shares. Assumes nothing.
+-- The kept prefixes of a query, one after the other, with their totals from two shares.
 use Prim.Native.Nat.{ℕ, _+_, _-_, _*_, _/_, _≤_, _<_}
 use native.Mathlib.Omega.{arith}
 use mathlib.Core.Path.{_≡_}

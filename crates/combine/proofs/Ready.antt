@@ -1,4 +1,4 @@
--- What follows where no cause of what is lent applies. Assumes nothing.
+-- What follows where no cause of what is lent applies.
 use Prim.Native.Nat.{ℕ, suc, _+_, _*_, _≤_, _<_}
 use native.Mathlib.Omega.{arith}
 use mathlib.Core.Path.{_≡_, sym, _∙_}

@@ -1,4 +1,4 @@
--- Combining two shares that are totals keeps the prefixes that the search rule keeps. Assumes nothing.
+-- Combining two shares that are totals keeps the prefixes that the search rule keeps.
 use Prim.Native.Nat.{ℕ, _/_, _^_, _<_}
 use native.Mathlib.Omega.{arith}
 use mathlib.Core.Path.{_≡_, refl, ap, ap₂, _∙_}

@@ -1,4 +1,4 @@
--- What `combine` returns where no cause of what is lent applies, in the numbers that the code has. Assumes nothing.
+-- What `combine` returns where no cause of what is lent applies, in the numbers that the code has.
 use Prim.Native.Nat.{ℕ, suc, _+_, _*_, _≤_, _<_}
 use native.Mathlib.Omega.{arith}
 use mathlib.Core.Path.{_≡_, refl, sym, _∙_}

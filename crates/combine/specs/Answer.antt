@@ -1,4 +1,4 @@
--- What combining answers: document 01, 'The search'. Assumes nothing.
+-- What combining answers: document 01, 'The search'.
 use Prim.Native.Nat.{ℕ}
 use mathlib.Core.Bool.{cond}
 use mathlib.Core.List.{List, [], _∷_}

@@ -1,4 +1,4 @@
--- The call `combine`: document 01, 'The search' and 'Causes of refusal'. Assumes nothing.
+-- The call `combine`: document 01, 'The search' and 'Causes of refusal'.
 use Prim.Native.Nat.{ℕ, _*_, _<_}
 use mathlib.Core.Bool.{Bool, false, cond, not, _&&_, _||_}
 use mathlib.Core.List.{List, [], _∷_, _++_}

@@ -1,4 +1,4 @@
--- Demand 3 holds. Assumes nothing.
+-- Demand 3 holds.
 use Prim.Native.Nat.{ℕ, _≤_}
 use native.Mathlib.Omega.{arith}
 use mathlib.Core.List.{List}

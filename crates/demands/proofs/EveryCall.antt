@@ -1,4 +1,4 @@
--- Demand 1 holds of every call. Assumes nothing.
+-- Demand 1 holds of every call.
 use Prim.Native.Nat.{ℕ, _≤_}
 use native.Mathlib.Omega.{arith}
 use mathlib.Core.Path.{_≡_, refl, ap, _∙_}

@@ -1,4 +1,4 @@
--- Demand 2 holds. Assumes nothing.
+-- Demand 2 holds.
 use Prim.Native.Nat.{ℕ, _*_, _≤_, _<_}
 use native.Mathlib.Omega.{arith}
 use mathlib.Core.Path.{_≡_, refl, sym, ap, _∙_}

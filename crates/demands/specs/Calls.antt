@@ -1,4 +1,4 @@
--- Every call with all that it is lent, its causes, and what it returns and leaves, each by its own definitions. Assumes nothing.
+-- Every call with all that it is lent, its causes, and what it returns and leaves, each by its own definitions.
 use Prim.Native.Nat.{ℕ, _<_}
 use mathlib.Core.Bool.{Bool, true, false, cond}
 use mathlib.Core.List.{List, [], _∷_}

@@ -1,4 +1,4 @@
--- Words of the demands: a key with its point function, a server's answer, the calls in turn, and when an honest search is ready. Assumes nothing.
+-- Words of the demands: a key with its point function, a server's answer, the calls in turn, and when an honest search is ready.
 use Prim.Native.Nat.{ℕ, _*_, _≤_}
 use mathlib.Core.Path.{_≡_}
 use mathlib.Core.Bool.{Bool, cond}

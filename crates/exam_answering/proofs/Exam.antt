@@ -1,4 +1,4 @@
--- The outcome of `answer` by the sheet: the number that is due, and what is written where it is 0. Assumes nothing.
+-- The outcome of `answer` by the sheet: the number that is due, and what is written where it is 0.
 use Prim.Native.Nat.{ℕ, _≤_, _<_}
 use native.Mathlib.Omega.{arith}
 use mathlib.Core.Path.{_≡_, refl, sym, ap, subst, _∙_}

@@ -1,4 +1,4 @@
--- The outcome of `answer`, cause by cause. Assumes nothing.
+-- The outcome of `answer`, cause by cause.
 use Prim.Native.Nat.{ℕ, _≤_, _<_}
 use native.Mathlib.Omega.{arith}
 use mathlib.Core.Path.{_≡_, sym}

@@ -1,4 +1,4 @@
--- The call `answer`: the number that is due, what is written, and the numbers in space enough. Assumes nothing.
+-- The call `answer`: the number that is due, what is written, and the numbers in space enough.
 use Prim.Native.Nat.{ℕ, _≤_}
 use native.Mathlib.Omega.{arith}
 use mathlib.Core.Path.{_≡_, refl, ap, _∙_}

@@ -1,4 +1,4 @@
--- A search of honest reports for the strings of a sheet: it is accepted, and what is printed of it is the sheet's answer. Assumes nothing.
+-- A search of honest reports for the strings of a sheet: it is accepted, and what is printed of it is the sheet's answer.
 use Prim.Native.Nat.{_≤_}
 use native.Mathlib.Omega.{arith}
 use mathlib.Core.Path.{_≡_, ap₂, _∙_}

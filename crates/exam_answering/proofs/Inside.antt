@@ -1,4 +1,4 @@
--- What a call wrote from the beginning of a space on is no longer than that space. Assumes nothing.
+-- What a call wrote from the beginning of a space on is no longer than that space.
 use Prim.Native.Nat.{ℕ, _≤_}
 use native.Mathlib.Omega.{arith}
 use mathlib.Core.Path.{_≡_}

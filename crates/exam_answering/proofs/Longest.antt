@@ -1,4 +1,4 @@
--- A bound on the length of an answer to a sheet within its bounds. Assumes nothing.
+-- A bound on the length of an answer to a sheet within its bounds.
 use Prim.Native.Nat.{ℕ, zero, suc, _+_, _*_, _≤_}
 use native.Mathlib.Omega.{arith}
 use native.Mathlib.Nat.{suc-mul, mul-le-mul, div-le-self}

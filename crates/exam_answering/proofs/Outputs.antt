@@ -1,4 +1,4 @@
--- The calls `refused_line` and `respond`: the numbers that are due and what is written. Assumes nothing.
+-- The calls `refused_line` and `respond`: the numbers that are due and what is written.
 use Prim.Native.Nat.{ℕ, _≤_, _<_}
 use native.Mathlib.Omega.{arith}
 use mathlib.Core.Path.{_≡_, ap, _∙_}

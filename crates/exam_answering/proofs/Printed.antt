@@ -1,4 +1,4 @@
--- What is printed of a record and of a list of the search rule are the lines of that rule. Assumes nothing.
+-- What is printed of a record and of a list of the search rule are the lines of that rule.
 use Prim.Native.Nat.{ℕ, zero, suc, _+_, _/_, _^_, _≤_, _<_}
 use native.Mathlib.Omega.{arith}
 use native.Mathlib.Nat.{mul-div-cancel}

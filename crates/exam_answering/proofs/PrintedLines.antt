@@ -1,4 +1,4 @@
--- The lines of a record and of a list, one after the other: how a loop over them goes on. Assumes nothing.
+-- The lines of a record and of a list, one after the other: how a loop over them goes on.
 use Prim.Native.Nat.{ℕ, zero, suc, _+_, _-_, _*_, _≤_, _<_}
 use native.Mathlib.Omega.{arith}
 use mathlib.Core.Path.{_≡_, refl}

@@ -1,4 +1,4 @@
--- Which prefixes a search queries: those of 1 to n bits all of whose non-empty proper prefixes are heavy. Assumes nothing.
+-- Which prefixes a search queries: those of 1 to n bits all of whose non-empty proper prefixes are heavy.
 use Prim.Native.Nat.{ℕ, zero, suc, _≤_, _<_}
 use native.Mathlib.Omega.{arith}
 use mathlib.Core.Path.{_≡_, refl, sym, ap, subst, _∙_}

@@ -1,4 +1,4 @@
--- The outcome of `respond` by that of `answer` in the same space. Assumes nothing.
+-- The outcome of `respond` by that of `answer` in the same space.
 use Prim.Native.Nat.{ℕ}
 use native.Mathlib.Omega.{arith}
 use mathlib.Core.Path.{_≡_, refl, sym, _∙_}

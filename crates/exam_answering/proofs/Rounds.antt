@@ -1,4 +1,4 @@
--- A record that begins with a query and its totals: what is read of it, and what is left behind them. Assumes nothing.
+-- A record that begins with a query and its totals: what is read of it, and what is left behind them.
 use Prim.Native.Nat.{ℕ, suc, _+_, _*_, _≤_, _<_}
 use native.Mathlib.Omega.{arith}
 use mathlib.Core.Path.{_≡_, refl, sym, ap, ap₂, _∙_}

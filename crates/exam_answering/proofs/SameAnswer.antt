@@ -1,4 +1,4 @@
--- On what of a sheet the answer depends, and what its heavy lines are. Assumes nothing.
+-- On what of a sheet the answer depends, and what its heavy lines are.
 use Prim.Native.Nat.{ℕ, _≤_}
 use mathlib.Core.Path.{_≡_, refl, sym, ap, ap₂, fun-ext, _∙_}
 use mathlib.Core.Logic.{_↔_}

@@ -1,4 +1,4 @@
--- The answer to a sheet is what is printed of an accepted search of its own reports, which are honest. Assumes nothing.
+-- The answer to a sheet is what is printed of an accepted search of its own reports, which are honest.
 use Prim.Native.Nat.{ℕ}
 use mathlib.Core.Path.{_≡_, sym, _∙_}
 use borrow.Author.Tests.{ltb-false, not-false}

@@ -1,4 +1,4 @@
--- The search of a sheet's own reports: they are honest, it is accepted, and what is printed of it is the sheet's answer. Assumes nothing.
+-- The search of a sheet's own reports: they are honest, it is accepted, and what is printed of it is the sheet's answer.
 use Prim.Native.Nat.{ℕ, _*_, _≤_, _<_}
 use native.Mathlib.Nat.{mul-le-mul-left}
 use native.Mathlib.Omega.{arith}

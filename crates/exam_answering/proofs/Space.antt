@@ -1,4 +1,4 @@
--- The exam program's space is enough for every search that it makes. Assumes nothing.
+-- The exam program's space is enough for every search that it makes.
 use Prim.Native.Nat.{ℕ, _/_, _≤_}
 use native.Mathlib.Omega.{arith}
 use native.Mathlib.Nat.{div-le-self, mul-le-mul}

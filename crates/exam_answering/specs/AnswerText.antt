@@ -1,4 +1,4 @@
--- The answer to an exam sheet, as text: document 01, 'Exam program'. Assumes nothing.
+-- The answer to an exam sheet, as text: document 01, 'Exam program'.
 use Prim.Native.Nat.{ℕ, zero, suc}
 use mathlib.Core.Bool.{Bool}
 use mathlib.Core.List.{List, [], _∷_, _++_}

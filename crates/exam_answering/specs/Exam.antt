@@ -1,4 +1,4 @@
--- The calls `answer` and `respond`: document 01, 'Causes of refusal' and 'Exam program'. Assumes nothing.
+-- The calls `answer` and `respond`: document 01, 'Causes of refusal' and 'Exam program'.
 use Prim.Native.Nat.{ℕ, _<_}
 use mathlib.Core.Path.{_≡_}
 use mathlib.Core.Bool.{Bool, true, false, not, cond}

@@ -1,4 +1,4 @@
--- The same answer, printed from the bytes of a record and of a list. Assumes nothing.
+-- The same answer, printed from the bytes of a record and of a list.
 use Prim.Native.Nat.{ℕ, zero, suc, _+_, _*_, _/_}
 use mathlib.Core.Bool.{cond}
 use mathlib.Core.List.{List, [], _++_}

@@ -1,4 +1,4 @@
--- The search of a sheet's own reports, and what is printed of it: document 01, 'Exam program'. Assumes nothing.
+-- The search of a sheet's own reports, and what is printed of it: document 01, 'Exam program'.
 use Prim.Native.Nat.{ℕ}
 use mathlib.Core.List.{List}
 use lib.ListN.{replicate}

@@ -26,16 +26,20 @@ pub fn answer(text: &[u8], out: &mut [u8]) -> Reply
     let n = sheet.n;
     let t = sheet.t;
     let expander = sheet.expander;
-    if !sheet.is_sheet {
+    let is_sheet = sheet.is_sheet;
+    let no_bits = n < 1;
+    let outside = calls::threshold_outside(t);
+    let known = expander::is_expander(expander);
+    if !is_sheet {
         return refusal(10);
     }
-    if n < 1 {
+    if no_bits {
         return refusal(1);
     }
-    if calls::threshold_outside(t) {
+    if outside {
         return refusal(2);
     }
-    if !expander::is_expander(expander) {
+    if !known {
         return refusal(3);
     }
     solve(text, n, t, expander, sheet.count, out)

@@ -1,4 +1,4 @@
--- The digits of a number of 64 bits are those of its tenth, and one more. Assumes nothing.
+-- The digits of a number of 64 bits are those of its tenth, and one more.
 use Prim.Native.Nat.{ℕ, _+_, _/_, _%_, _^_, _≤_, _<_}
 use native.Mathlib.Omega.{arith}
 use mathlib.Core.Path.{_≡_, ap, _∙_}

@@ -1,4 +1,4 @@
--- A line of packed bits put at a place: where it has room, and where not. Assumes nothing.
+-- A line of packed bits put at a place: where it has room, and where not.
 use Prim.Native.Nat.{ℕ, _+_, _≤_}
 use native.Mathlib.Omega.{arith}
 use mathlib.Core.Path.{_≡_, refl, sym, ap, _∙_}

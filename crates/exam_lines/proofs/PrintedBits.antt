@@ -1,4 +1,4 @@
--- A packed string as characters, one after the other. Assumes nothing.
+-- A packed string as characters, one after the other.
 use Prim.Native.Nat.{ℕ, suc, _+_, _≤_, _<_}
 use native.Mathlib.Omega.{arith}
 use native.Mathlib.Numerals.{add-one}

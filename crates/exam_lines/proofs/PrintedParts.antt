@@ -1,4 +1,4 @@
--- Parts of a text written one after the other. Assumes nothing.
+-- Parts of a text written one after the other.
 use Prim.Native.Nat.{ℕ, _+_, _≤_}
 use native.Mathlib.Omega.{arith}
 use mathlib.Core.Path.{_≡_, ap}

@@ -1,4 +1,4 @@
--- The lines of an answer, and that of a refusal: document 01, 'Exam program'. Assumes nothing.
+-- The lines of an answer, and that of a refusal: document 01, 'Exam program'.
 use Prim.Native.Nat.{ℕ, _+_}
 use mathlib.Core.Bool.{cond}
 use mathlib.Core.List.{List, [], _∷_, _++_}

@@ -1,4 +1,4 @@
--- What is written for each line, as pieces joined. Assumes nothing.
+-- What is written for each line, as pieces joined.
 use Prim.Native.Nat.{ℕ, zero, suc, _*_, _<_}
 use mathlib.Core.Path.{_≡_, refl, sym, ap, _∙_}
 use mathlib.Core.List.{List, [], _∷_, _++_, append-assoc, append-nil}

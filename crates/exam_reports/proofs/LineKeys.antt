@@ -1,4 +1,4 @@
--- The lines of a sheet at their places of the text: what is read there, and their keys. Assumes nothing.
+-- The lines of a sheet at their places of the text: what is read there, and their keys.
 use Prim.Native.Nat.{ℕ, _≤_, _<_}
 use native.Mathlib.Omega.{arith}
 use mathlib.Core.Path.{_≡_, ap, _∙_}

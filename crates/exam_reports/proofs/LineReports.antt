@@ -1,4 +1,4 @@
--- The reports of a sheet's lines: root seeds and public shares, written line by line. Assumes nothing.
+-- The reports of a sheet's lines: root seeds and public shares, written line by line.
 use Prim.Native.Nat.{ℕ, suc, _*_, _≤_, _<_}
 use native.Mathlib.Nat.{mul-le-mul-left, le-trans}
 use native.Mathlib.Omega.{arith}

@@ -1,4 +1,4 @@
--- Pieces put into a list, one after the other or through a part of it. Assumes nothing.
+-- Pieces put into a list, one after the other or through a part of it.
 use Prim.Native.Nat.{ℕ, zero, suc, _+_, _-_, _*_, _≤_, _<_}
 use native.Mathlib.Nat.{mul-suc, zero-add}
 use native.Mathlib.Omega.{arith}

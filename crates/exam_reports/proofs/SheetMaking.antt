@@ -1,4 +1,4 @@
--- When the reports of a text's sheet are made, and what stands in the areas then. Assumes nothing.
+-- When the reports of a text's sheet are made, and what stands in the areas then.
 use Prim.Native.Nat.{ℕ, _*_, _≤_, _<_}
 use mathlib.Core.Path.{_≡_, sym, ap, ap₂, _∙_}
 use mathlib.Core.Bool.{Bool, true, false, _&&_}

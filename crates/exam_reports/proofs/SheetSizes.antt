@@ -1,4 +1,4 @@
--- How long the reports of a sheet are. Assumes nothing.
+-- How long the reports of a sheet are.
 use Prim.Native.Nat.{ℕ, _*_, _≤_, _<_}
 use native.Mathlib.Omega.{arith}
 use mathlib.Core.Path.{_≡_, sym, ap, _∙_}

@@ -1,4 +1,4 @@
--- The reports of a sheet: document 01, 'Exam program' and 'Keys and nodes'. Assumes nothing.
+-- The reports of a sheet: document 01, 'Exam program' and 'Keys and nodes'.
 use Prim.Native.Nat.{ℕ}
 use mathlib.Core.Bool.{Bool, true, false, cond, _&&_}
 use mathlib.Core.List.{List, [], _∷_, _++_}

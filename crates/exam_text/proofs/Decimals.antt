@@ -1,4 +1,4 @@
--- The digits of a number in decimal: how many there are, what they are, and which number they are. Assumes nothing.
+-- The digits of a number in decimal: how many there are, what they are, and which number they are.
 use Prim.Native.Nat.{ℕ, zero, suc, _+_, _-_, _*_, _/_, _%_, _^_, _≤_, _<_}
 use native.Mathlib.Decide.{decLt}
 use native.Mathlib.Omega.{arith}

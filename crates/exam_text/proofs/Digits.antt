@@ -1,4 +1,4 @@
--- The digits at a place of a text, and the number that they are. Assumes nothing.
+-- The digits at a place of a text, and the number that they are.
 use Prim.Native.Nat.{ℕ, suc, _+_, _-_, _*_, _^_, _≤_, _<_}
 use native.Mathlib.Decide.{decLt}
 use native.Mathlib.Nat.{pow-succ', pow-le-pow-right}

@@ -1,4 +1,4 @@
--- Computed facts that pin the definitions: numbers and bytes as text, sheet D read from its text, and texts that are refused. Assumes nothing.
+-- Computed facts that pin the definitions: numbers and bytes as text, sheet D read from its text, and texts that are refused.
 use Prim.Native.Nat.{ℕ, _-_}
 use mathlib.Core.Path.{_≡_, refl}
 use mathlib.Core.Bool.{true, false}

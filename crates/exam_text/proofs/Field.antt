@@ -1,4 +1,4 @@
--- A field of a first line: the tests in their order, and what stands behind it. Assumes nothing.
+-- A field of a first line: the tests in their order, and what stands behind it.
 use Prim.Native.Nat.{ℕ, suc, _+_, _≤_, _<_}
 use native.Mathlib.Decide.{decLt}
 use native.Mathlib.Omega.{arith}

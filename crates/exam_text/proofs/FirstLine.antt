@@ -1,4 +1,4 @@
--- The first line of a text from its fields. Assumes nothing.
+-- The first line of a text from its fields.
 use Prim.Native.Nat.{ℕ}
 use native.Mathlib.Omega.{arith}
 use mathlib.Core.Path.{_≡_, sym, _∙_}

@@ -1,4 +1,4 @@
--- The first line of a sheet: what is printed is read back, and what is read is printed so. Assumes nothing.
+-- The first line of a sheet: what is printed is read back, and what is read is printed so.
 use Prim.Native.Nat.{ℕ}
 use native.Mathlib.Omega.{arith}
 use mathlib.Core.Path.{_≡_, refl, sym, ap, _∙_}

@@ -1,4 +1,4 @@
--- The fields of a line, strings of bits and seeds: what is printed is read back, and what is read is printed so. Assumes nothing.
+-- The fields of a line, strings of bits and seeds: what is printed is read back, and what is read is printed so.
 use Prim.Native.Nat.{ℕ, zero, suc, _+_, _-_, _*_, _/_, _%_, _≤_, _<_}
 use native.Mathlib.Decide.{decLt}
 use native.Mathlib.Omega.{arith}

@@ -1,4 +1,4 @@
--- The parts of a line: each is found at its place, and a line is joined of them. Assumes nothing.
+-- The parts of a line: each is found at its place, and a line is joined of them.
 use Prim.Native.Nat.{ℕ, suc, _+_, _<_}
 use native.Mathlib.Omega.{arith}
 use mathlib.Core.Path.{_≡_, refl, sym, ap, _∙_}

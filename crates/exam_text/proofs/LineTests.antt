@@ -1,4 +1,4 @@
--- The lines of a text, in place: the tests of their characters, one by one. Assumes nothing.
+-- The lines of a text, in place: the tests of their characters, one by one.
 use Prim.Native.Nat.{ℕ, zero, suc, _+_, _-_, _*_, _≤_, _<_}
 use native.Mathlib.Decide.{decLt}
 use native.Mathlib.Omega.{arith}

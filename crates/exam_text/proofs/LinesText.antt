@@ -1,4 +1,4 @@
--- The lines of a sheet: what is printed is read back, and what is read is printed so. Assumes nothing.
+-- The lines of a sheet: what is printed is read back, and what is read is printed so.
 use Prim.Native.Nat.{ℕ, zero, suc, _+_, _≤_}
 use native.Mathlib.Omega.{arith}
 use mathlib.Core.Path.{_≡_, refl, ap, ap₂, _∙_}

@@ -1,4 +1,4 @@
--- Numbers in a text: what is printed is read back, and what is read is printed so. Assumes nothing.
+-- Numbers in a text: what is printed is read back, and what is read is printed so.
 use Prim.Native.Nat.{ℕ, suc, _+_, _-_, _*_, _^_, _≤_, _<_}
 use native.Mathlib.Nat.{pow-le-pow-right}
 use native.Mathlib.Decide.{decLt}

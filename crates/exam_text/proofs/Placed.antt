@@ -1,4 +1,4 @@
--- The lines of a sheet at their places in its text. Assumes nothing.
+-- The lines of a sheet at their places in its text.
 use Prim.Native.Nat.{ℕ, zero, suc, _+_, _*_, _≤_, _<_}
 use native.Mathlib.Nat.{suc-mul, mul-le-mul-right}
 use native.Mathlib.Omega.{arith}

@@ -1,4 +1,4 @@
--- The reader is exact: it reads the text of each sheet within bounds as that sheet, and refuses every other text. Assumes nothing.
+-- The reader is exact: it reads the text of each sheet within bounds as that sheet, and refuses every other text.
 use Prim.Native.Nat.{ℕ, _≤_}
 use native.Mathlib.Omega.{arith}
 use mathlib.Core.Path.{_≡_, refl, sym, ap, _∙_}

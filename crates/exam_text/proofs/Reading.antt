@@ -1,4 +1,4 @@
--- What the code that reads a first line finds at a place of a text, for contracts that are not published. Assumes nothing.
+-- What the code that reads a first line finds at a place of a text, for contracts that are not published.
 use Prim.Native.Nat.{ℕ, _≤_}
 use mathlib.Core.Path.{_≡_}
 use mathlib.Core.Bool.{Bool, true, cond, _&&_, _||_}

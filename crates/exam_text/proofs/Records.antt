@@ -1,4 +1,4 @@
--- The bytes of a search's record, for contracts that are not published. Assumes nothing.
+-- The bytes of a search's record, for contracts that are not published.
 use Prim.Native.Nat.{ℕ, zero, suc, _≤_}
 use mathlib.Core.Path.{_≡_}
 use mathlib.Core.List.{List}

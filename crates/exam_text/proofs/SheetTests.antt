@@ -1,4 +1,4 @@
--- The tests of a sheet's text, in their order, and what it says. Assumes nothing.
+-- The tests of a sheet's text, in their order, and what it says.
 use Prim.Native.Nat.{ℕ, zero, suc, _≤_, _<_}
 use mathlib.Core.Path.{_≡_, refl, sym, ap, _∙_}
 use mathlib.Core.Bool.{true, false, _&&_}

@@ -1,4 +1,4 @@
--- How long a number is in decimal, and the text of a sheet. Assumes nothing.
+-- How long a number is in decimal, and the text of a sheet.
 use Prim.Native.Nat.{ℕ, zero, suc, _+_, _*_, _/_, _%_, _^_, _≤_, _<_}
 use native.Mathlib.Omega.{arith}
 use native.Mathlib.Nat.{suc-mul, mul-le-mul, pow-succ', div-lt-iff-lt-mul}

@@ -1,4 +1,4 @@
--- The seeds and the strings of a line, as bytes. Assumes nothing.
+-- The seeds and the strings of a line, as bytes.
 use Prim.Native.Nat.{ℕ, zero, suc, _+_, _-_, _*_, _^_, _≤_, _<_}
 use native.Mathlib.Nat.{add-mul, mul-assoc, mul-left-comm, le-mul-of-pos-right, pow-succ'}
 use native.Mathlib.Omega.{arith}

@@ -1,4 +1,4 @@
--- The characters of exam texts and of answers, as bytes: ASCII. Assumes nothing.
+-- The characters of exam texts and of answers, as bytes: ASCII.
 use Prim.Native.Nat.{ℕ, zero, suc, _+_, _/_, _%_}
 use mathlib.Core.Bool.{cond}
 use mathlib.Core.List.{List, [], _∷_, _++_}

@@ -1,4 +1,4 @@
--- The reader of exam texts: whether a text is that of a sheet, and of which. Assumes nothing.
+-- The reader of exam texts: whether a text is that of a sheet, and of which.
 use Prim.Native.Nat.{ℕ, zero, suc, _+_, _*_, _-_, _≤_}
 use mathlib.Core.Path.{_≡_}
 use mathlib.Core.Bool.{Bool, true, cond, not, _&&_, _||_}

@@ -1,4 +1,4 @@
--- An exam sheet, and its text: document 01, 'Exam program'. Assumes nothing.
+-- An exam sheet, and its text: document 01, 'Exam program'.
 use Prim.Native.Nat.{ℕ, _≤_, _<_}
 use mathlib.Core.List.{List, [], _∷_, _++_, map}
 use mathlib.Core.Option.{Option, none, some}

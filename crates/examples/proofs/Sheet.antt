@@ -1,4 +1,4 @@
--- The sheet of document 01: every row of the table holds. Assumes nothing.
+-- The sheet of document 01: every row of the table holds.
 use mathlib.Core.Path.{_≡_, refl, ap, ap₂, _∙_}
 use mathlib.Core.Bool.{true, false, cond, xor}
 use mathlib.Core.List.{List, [], _∷_}

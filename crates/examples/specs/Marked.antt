@@ -1,4 +1,4 @@
--- Document 01, 'Sheet of examples': the marked examples as one table. Assumes nothing.
+-- Document 01, 'Sheet of examples': the marked examples as one table.
 use Prim.Native.Nat.{ℕ, _+_, _-_, _%_, _≤_}
 use mathlib.Core.Path.{_≡_}
 use mathlib.Core.Bool.{Bool, true, false, cond}

@@ -1,4 +1,4 @@
--- A number is an expander's exactly when it names one, and names none exactly when it is neither 1 nor 2. Assumes nothing.
+-- A number is an expander's exactly when it names one, and names none exactly when it is neither 1 nor 2.
 use Prim.Native.Nat.{ℕ}
 use native.Mathlib.Omega.{arith}
 use mathlib.Core.Path.{_≡_, refl}

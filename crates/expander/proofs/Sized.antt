@@ -1,4 +1,4 @@
--- Each expander gives 16 bytes for 16 bytes. Assumes nothing.
+-- Each expander gives 16 bytes for 16 bytes.
 use Prim.Native.Nat.{ℕ, zero, suc, _<_}
 use mathlib.Core.Path.{_≡_}
 use mathlib.Core.List.{List, [], _∷_, _++_}

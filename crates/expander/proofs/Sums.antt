@@ -1,4 +1,4 @@
--- XOR undoes itself, on numbers and on byte strings of one length, and keeps their length. Assumes nothing.
+-- XOR undoes itself, on numbers and on byte strings of one length, and keeps their length.
 use mathlib.Core.Path.{_≡_, refl, sym, ap, ap₂, _∙_}
 use mathlib.Core.List.{List, [], _∷_}
 use Prim.Native.Nat.{ℕ, zero, suc, _+_, _*_, _/_, _%_, _<_}

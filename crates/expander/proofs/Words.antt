@@ -1,4 +1,4 @@
--- A block as two words: what is written and read of it, eight bytes at a time. Assumes nothing.
+-- A block as two words: what is written and read of it, eight bytes at a time.
 use mathlib.Core.Path.{_≡_, refl, sym, ap, ap₂, _∙_}
 use mathlib.Core.List.{List, _++_}
 use Prim.Native.Nat.{ℕ, _+_, _%_, _^_, _<_}

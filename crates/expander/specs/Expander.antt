@@ -1,4 +1,4 @@
--- Expanders: block j of a seed, document 01, 'The group and the expanders'. Assumes nothing.
+-- Expanders: block j of a seed, document 01, 'The group and the expanders'.
 use Prim.Native.Nat.{ℕ, _+_, _%_, _^_}
 use mathlib.Core.Bool.{Bool, cond, _||_}
 use mathlib.Core.List.{List, [], _∷_, _++_}

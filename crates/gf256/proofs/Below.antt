@@ -1,4 +1,4 @@
--- A test that holds of every number below a bound, by one computation. Assumes nothing.
+-- A test that holds of every number below a bound, by one computation.
 use mathlib.Core.Path.{_≡_, subst, sym}
 use mathlib.Core.Bool.{Bool, true, false, _&&_}
 use mathlib.Core.Logic.{⊎-elim}

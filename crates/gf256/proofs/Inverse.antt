@@ -1,4 +1,4 @@
--- `inverse` is the multiplicative inverse of GF(2^8), by a computation over the 256 bytes; it maps 0 to 0. Assumes nothing.
+-- `inverse` is the multiplicative inverse of GF(2^8), by a computation over the 256 bytes; it maps 0 to 0.
 use mathlib.Core.Path.{_≡_, refl, sym, ap, _∙_}
 use mathlib.Core.Bool.{Bool}
 use mathlib.Core.List.{List, [], _∷_}

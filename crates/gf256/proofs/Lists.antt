@@ -1,4 +1,4 @@
--- Laws of lists that are given by their places. Assumes nothing.
+-- Laws of lists that are given by their places.
 use mathlib.Core.Path.{_≡_, refl, ap, subst}
 use mathlib.Core.List.{List, [], _∷_, _++_, map}
 use Prim.Native.Nat.{ℕ, zero, suc, _<_}

@@ -1,4 +1,4 @@
--- Doubling by shifting and reducing, and tripling, are products in GF(2^8), by a test of all 256 bytes. Assumes nothing.
+-- Doubling by shifting and reducing, and tripling, are products in GF(2^8), by a test of all 256 bytes.
 use mathlib.Core.Path.{_≡_, ap}
 use mathlib.Core.Bool.{Bool}
 use Prim.Native.Nat.{ℕ, _*_, _/_, _^_, _<_}

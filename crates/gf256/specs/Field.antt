@@ -1,4 +1,4 @@
--- The finite field GF(2^8) of FIPS 197, section 4. A byte is a number below 256; its bit i is the coefficient of x ^ i. Assumes nothing.
+-- The finite field GF(2^8) of FIPS 197, section 4. A byte is a number below 256; its bit i is the coefficient of x ^ i.
 use mathlib.Core.List.{List, [], _∷_}
 use Prim.Native.Nat.{ℕ, zero, suc, _+_, _*_, _/_, _%_, _^_}
 use lib.Bits.{bitXor}

@@ -1,4 +1,4 @@
--- What follows from the laws of a commutative group. Assumes nothing.
+-- What follows from the laws of a commutative group.
 use mathlib.Core.Path.{_≡_, sym, ap, _∙_}
 use mathlib.Core.Bool.{Bool, true, false, cond, not}
 use Rattle.group.specs.Group.{Group, CommutativeGroup}

@@ -1,4 +1,4 @@
--- Numbers modulo any m above 0 are a commutative group, and so are those modulo p. Assumes nothing.
+-- Numbers modulo any m above 0 are a commutative group, and so are those modulo p.
 use mathlib.Core.Path.{_≡_, sym, ap, _∙_}
 use Prim.Native.Nat.{ℕ, _+_, _-_, _%_, _<_}
 use native.Mathlib.Nat.{add-comm, add-assoc, add-zero, mod-lt, mod-eq-of-lt, mod-add-mod, add-mod-mod, mod-self}

@@ -1,4 +1,4 @@
--- Commutative groups whose elements are written as values of a type A. Assumes nothing.
+-- Commutative groups whose elements are written as values of a type A.
 use mathlib.Core.Path.{_≡_}
 
 -- The operations.

@@ -1,4 +1,4 @@
--- Numbers added and negated modulo m, and the prime that shares and totals are counted by. Assumes nothing.
+-- Numbers added and negated modulo m, and the prime that shares and totals are counted by.
 use Prim.Native.Nat.{ℕ, _+_, _-_, _%_}
 use Rattle.group.specs.Group.{Group}
 

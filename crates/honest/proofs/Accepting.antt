@@ -1,4 +1,4 @@
--- The number of a search of honest reports: no cause before 11 applies, and 11 does not where there is space. Assumes nothing.
+-- The number of a search of honest reports: no cause before 11 applies, and 11 does not where there is space.
 use mathlib.Core.Path.{_≡_, refl, sym, ap, ap₂, _∙_}
 use mathlib.Core.Bool.{Bool, true, false, cond, not, _||_}
 use mathlib.Core.List.{List}

@@ -1,4 +1,4 @@
--- The totals of an honest search are the numbers of strings that have the prefix, and its record and list those of its strings. Assumes nothing.
+-- The totals of an honest search are the numbers of strings that have the prefix, and its record and list those of its strings.
 use mathlib.Core.Path.{_≡_, ap, ap₂, _∙_}
 use mathlib.Core.Bool.{true, false}
 use mathlib.Core.List.{List}

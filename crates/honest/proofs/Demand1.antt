@@ -1,4 +1,4 @@
--- Demand 1: each call returns the number that is due, and what it leaves of the lent spaces. Assumes nothing.
+-- Demand 1: each call returns the number that is due, and what it leaves of the lent spaces.
 use Prim.Native.Nat.{ℕ, suc, _+_, _*_, _≤_}
 use mathlib.Core.Path.{_≡_, refl, ap, _∙_}
 use mathlib.Core.Bool.{Bool}

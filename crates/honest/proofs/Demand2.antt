@@ -1,4 +1,4 @@
--- Demand 2: keys and shares, what combining writes, and what the list of an accepted search holds. Assumes nothing.
+-- Demand 2: keys and shares, what combining writes, and what the list of an accepted search holds.
 use mathlib.Core.Path.{_≡_, refl, sym, ap, ap₂, _∙_}
 use mathlib.Core.Logic.{_↔_}
 use mathlib.Core.Bool.{Bool, true, false, cond}

@@ -1,4 +1,4 @@
--- Demand 3: what the record of an accepted search tells, and what it consists of. Assumes nothing.
+-- Demand 3: what the record of an accepted search tells, and what it consists of.
 use mathlib.Core.Path.{_≡_, sym, ap, ap₂, _∙_, subst}
 use mathlib.Core.Logic.{_↔_}
 use mathlib.Core.List.{List, _++_, append-assoc}

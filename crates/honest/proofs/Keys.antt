@@ -1,4 +1,4 @@
--- The key maker's outcome for an honest report. Assumes nothing.
+-- The key maker's outcome for an honest report.
 use mathlib.Core.Path.{_≡_, refl, sym, ap, ap₂, _∙_}
 use mathlib.Core.Bool.{true, not}
 use mathlib.Core.List.{List}

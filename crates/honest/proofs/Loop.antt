@@ -1,4 +1,4 @@
--- A whole search is the loop of both servers' shares and combining, whatever reports were lent. Assumes nothing.
+-- A whole search is the loop of both servers' shares and combining, whatever reports were lent.
 use mathlib.Core.Path.{_≡_, refl, sym, ap, _∙_, subst}
 use mathlib.Core.Bool.{Bool, true, false, cond, _||_}
 use mathlib.Core.List.{List, [], _∷_, _++_, map}

@@ -1,4 +1,4 @@
--- Honest reports as the theory has them, and what the servers are lent for them. Assumes nothing.
+-- Honest reports as the theory has them, and what the servers are lent for them.
 use Prim.Native.Nat.{ℕ, _<_}
 use mathlib.Core.Path.{_≡_}
 use mathlib.Core.Bool.{Bool}

@@ -1,4 +1,4 @@
--- Strings and root seeds, with the public shares that the key maker gives for them, are honest. Assumes nothing.
+-- Strings and root seeds, with the public shares that the key maker gives for them, are honest.
 use mathlib.Core.Path.{_≡_, sym, ap, _∙_}
 use mathlib.Core.List.{List, []}
 use Prim.Native.Nat.{ℕ, _*_, _≤_, _<_}

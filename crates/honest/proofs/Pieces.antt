@@ -1,4 +1,4 @@
--- Pieces of one length, one for each report, laid one after the other: how many bytes they are, and where each lies. Assumes nothing.
+-- Pieces of one length, one for each report, laid one after the other: how many bytes they are, and where each lies.
 use mathlib.Core.Path.{_≡_, refl, sym, ap, ap₂, _∙_}
 use mathlib.Core.List.{List, [], _∷_, _++_}
 use Prim.Native.Nat.{ℕ, zero, suc, _+_, _*_, _≤_, _<_}

@@ -1,4 +1,4 @@
--- From any level of a search on, what the calls leave is what the search rule says. Assumes nothing.
+-- From any level of a search on, what the calls leave is what the search rule says.
 use mathlib.Core.Path.{_≡_, refl, sym, ap, ap₂, _∙_, subst}
 use mathlib.Core.Bool.{Bool, true, false, cond}
 use mathlib.Core.List.{List, [], _∷_, _++_, map, append-assoc}

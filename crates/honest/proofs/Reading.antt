@@ -1,4 +1,4 @@
--- What is read of an accepted search is what it writes, and its record level by level. Assumes nothing.
+-- What is read of an accepted search is what it writes, and its record level by level.
 use mathlib.Core.Path.{_≡_, refl, sym, ap, ap₂, _∙_}
 use mathlib.Core.Bool.{Bool}
 use mathlib.Core.List.{List, _++_}

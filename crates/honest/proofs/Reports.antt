@@ -1,4 +1,4 @@
--- The reports of an honest search as the theory has them, that what is lent is what they are lent, and each server's sum. Assumes nothing.
+-- The reports of an honest search as the theory has them, that what is lent is what they are lent, and each server's sum.
 use mathlib.Core.Path.{_≡_, refl, sym, ap, ap₂, _∙_}
 use mathlib.Core.Bool.{true, false}
 use mathlib.Core.List.{List, [], _∷_}

@@ -1,4 +1,4 @@
--- What the key maker, a server and combining write on success: its length, and that it fits. Assumes nothing.
+-- What the key maker, a server and combining write on success: its length, and that it fits.
 use Prim.Native.Nat.{ℕ, suc, _+_, _*_, _≤_, _<_}
 use native.Mathlib.Omega.{arith}
 use mathlib.Core.Path.{_≡_, refl, sym, ap, _∙_, subst}

@@ -1,5 +1,5 @@
 -- One round of a search to which no cause before 11 applies, whatever reports were lent: both servers answer a query, and combining answers
--- their shares. Assumes nothing.
+-- their shares.
 use mathlib.Core.Path.{_≡_, refl, sym, ap, ap₂, _∙_}
 use mathlib.Core.Bool.{Bool, true, false, cond, not, _||_}
 use mathlib.Core.List.{List, [], _∷_, map}

@@ -1,4 +1,4 @@
--- A server's outcome for honest reports: no cause applies. Assumes nothing.
+-- A server's outcome for honest reports: no cause applies.
 use mathlib.Core.Path.{_≡_, sym, ap, _∙_}
 use mathlib.Core.Bool.{Bool, true, false, not, _&&_}
 use mathlib.Core.List.{List, [], map}

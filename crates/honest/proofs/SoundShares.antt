@@ -1,4 +1,4 @@
--- Whatever reports were lent, if no cause before 11 applies to the search: both servers succeed for each query, and write their sums. Assumes nothing.
+-- Whatever reports were lent, if no cause before 11 applies to the search: both servers succeed for each query, and write their sums.
 use mathlib.Core.Path.{_≡_, sym, ap, _∙_}
 use mathlib.Core.Bool.{Bool, true, false, cond, not}
 use mathlib.Core.List.{List}

@@ -1,4 +1,4 @@
--- A server's share of two lists of reports laid together is the sum of its shares of each, as `add_shares` writes it. Assumes nothing.
+-- A server's share of two lists of reports laid together is the sum of its shares of each, as `add_shares` writes it.
 use Prim.Native.Nat.{ℕ, zero, suc, _+_, _-_, _*_, _/_, _%_, _≤_, _<_, min}
 use native.Mathlib.Nat.{add-zero, add-suc, mul-add, mul-div-right, min-eq-left}
 use native.Mathlib.Decide.{decLt}

@@ -1,4 +1,4 @@
--- A server's sum over what it is lent for honest reports. Assumes nothing.
+-- A server's sum over what it is lent for honest reports.
 use mathlib.Core.Path.{_≡_, refl, ap, ap₂, _∙_}
 use mathlib.Core.Bool.{Bool, true, false}
 use mathlib.Core.List.{List, [], _∷_}

@@ -1,4 +1,4 @@
--- Honest searches, and what is read of a search: document 01, 'Keys and nodes' and 'Words of demand 3'. Assumes nothing.
+-- Honest searches, and what is read of a search: document 01, 'Keys and nodes' and 'Words of demand 3'.
 use Prim.Native.Nat.{ℕ, _*_, _<_}
 use mathlib.Core.Path.{_≡_}
 use mathlib.Core.List.{List, []}

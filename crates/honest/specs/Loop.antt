@@ -1,4 +1,4 @@
--- A search played call by call: both servers answer a query, combining answers their two shares, and so on. Document 01, 'The search'. Assumes nothing.
+-- A search played call by call: both servers answer a query, combining answers their two shares, and so on. Document 01, 'The search'.
 use Prim.Native.Nat.{ℕ, zero, suc, _*_}
 use mathlib.Core.Path.{_≡_}
 use mathlib.Core.Bool.{Bool, true, false, cond}

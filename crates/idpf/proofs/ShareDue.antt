@@ -1,4 +1,4 @@
--- The number that `share` returns is the one that is due, where the public shares and the query are bytes. Assumes nothing.
+-- The number that `share` returns is the one that is due, where the public shares and the query are bytes.
 use Prim.Native.Nat.{ℕ, _*_, _/_, _%_, _≤_, _<_}
 use native.Mathlib.Omega.{arith}
 use native.Mathlib.Decide.{decLt}

@@ -1,4 +1,4 @@
--- The outcome of `share`, case by case, and what follows where no cause applies. Assumes nothing.
+-- The outcome of `share`, case by case, and what follows where no cause applies.
 use Prim.Native.Nat.{ℕ, _*_, _/_, _%_, _≤_, _<_}
 use native.Mathlib.Omega.{arith}
 use native.Mathlib.Nat.{min-eq-left, mul-comm, div-add-mod'}

@@ -1,4 +1,4 @@
--- A server's sums for the prefixes of a query, one after the other. Assumes nothing.
+-- A server's sums for the prefixes of a query, one after the other.
 use Prim.Native.Nat.{ℕ, _+_, _*_, _≤_, _<_}
 use native.Mathlib.Numerals.{add-one}
 use native.Mathlib.Omega.{arith}

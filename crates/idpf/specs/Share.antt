@@ -1,4 +1,4 @@
--- The call `share`: document 01, 'Keys and nodes', a server's share for a query. Assumes nothing.
+-- The call `share`: document 01, 'Keys and nodes', a server's share for a query.
 use Prim.Native.Nat.{ℕ, _*_, _/_}
 use mathlib.Core.Bool.{Bool, not}
 use mathlib.Core.List.{List, [], _∷_, map}

@@ -1,4 +1,4 @@
--- Computed facts that pin the definitions: the edge of the threshold, and the strings that are kept. Assumes nothing.
+-- Computed facts that pin the definitions: the edge of the threshold, and the strings that are kept.
 use mathlib.Core.Path.{_≡_, refl}
 use mathlib.Core.Bool.{true, false}
 use mathlib.Core.List.{[], _∷_}

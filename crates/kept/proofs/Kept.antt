@@ -1,4 +1,4 @@
--- Laws of the kept strings, for any test of a number. Assumes nothing.
+-- Laws of the kept strings, for any test of a number.
 use Prim.Native.Nat.{ℕ, _+_}
 use native.Mathlib.Omega.{arith}
 use mathlib.Core.Path.{_≡_, refl, ap}

@@ -1,4 +1,4 @@
--- What is written of packed strings, one after the other, that are kept: themselves, or both children of each. Assumes nothing.
+-- What is written of packed strings, one after the other, that are kept: themselves, or both children of each.
 use Prim.Native.Nat.{ℕ, _+_, _-_, _≤_, _<_}
 use mathlib.Core.Path.{_≡_, refl, sym, _∙_}
 use mathlib.Core.Bool.{Bool, true, false, cond}

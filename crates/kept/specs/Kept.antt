@@ -1,4 +1,4 @@
--- Document 01, 'The search': which prefixes are kept. Assumes nothing.
+-- Document 01, 'The search': which prefixes are kept.
 use Prim.Native.Nat.{ℕ}
 use mathlib.Core.Bool.{Bool, cond}
 use mathlib.Core.List.{List, [], _∷_}

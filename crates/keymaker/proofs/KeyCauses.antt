@@ -1,4 +1,4 @@
--- The outcome of `make_key`: what a refusal writes, and what follows from 0. Assumes nothing.
+-- The outcome of `make_key`: what a refusal writes, and what follows from 0.
 use mathlib.Core.Path.{_≡_, ap, _∙_}
 use mathlib.Core.Bool.{true, not}
 use mathlib.Core.List.{List, []}

@@ -1,4 +1,4 @@
--- The control bytes of one level more, from those of the levels before it. Assumes nothing.
+-- The control bytes of one level more, from those of the levels before it.
 use mathlib.Core.Path.{_≡_, refl, sym, ap, ap₂}
 use mathlib.Core.Bool.{Bool, false}
 use Prim.Native.Nat.{ℕ, zero, suc, _+_, _*_, _/_, _%_, _^_, _<_, _≤_}

@@ -1,4 +1,4 @@
--- One level of the key maker, put together from the parts that the code takes. Assumes nothing.
+-- One level of the key maker, put together from the parts that the code takes.
 use mathlib.Core.Path.{_≡_, ap, ap₂, _∙_}
 use mathlib.Core.Bool.{Bool, true, false, cond, not, xor, Bool·beq}
 use mathlib.Core.List.{List}

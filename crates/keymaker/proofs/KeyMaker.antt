@@ -1,4 +1,4 @@
--- What the key maker has after k levels: both servers' nodes, and their levels written. Assumes nothing.
+-- What the key maker has after k levels: both servers' nodes, and their levels written.
 use mathlib.Core.Path.{_≡_, refl, sym, _∙_}
 use mathlib.Core.Bool.{Bool, true, false}
 use mathlib.Core.List.{List}

@@ -1,4 +1,4 @@
--- `make_key` returns the number that is due, and what it writes passes a server's tests. Assumes nothing.
+-- `make_key` returns the number that is due, and what it writes passes a server's tests.
 use mathlib.Core.Path.{_≡_, refl, sym, _∙_}
 use mathlib.Core.Bool.{Bool, true, not, true≢false, _||_}
 use mathlib.Core.List.{List}

@@ -1,4 +1,4 @@
--- A public share written level by level, and the key maker's nodes and words beside it. Assumes nothing.
+-- A public share written level by level, and the key maker's nodes and words beside it.
 use mathlib.Core.Path.{_≡_, refl, sym, ap, ap₂, _∙_}
 use mathlib.Core.List.{List, [], _∷_, _++_, append-assoc}
 use Prim.Native.Nat.{ℕ, suc, _+_, _*_, _/_, _%_, _^_, _<_, _≤_}

@@ -1,4 +1,4 @@
--- The call `make_key`: document 01, 'Keys and nodes' and 'Public share'. Assumes nothing.
+-- The call `make_key`: document 01, 'Keys and nodes' and 'Public share'.
 use Prim.Native.Nat.{ℕ, _≤_}
 use mathlib.Core.Path.{_≡_}
 use mathlib.Core.Bool.{true, false, not, _||_}

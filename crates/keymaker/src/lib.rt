@@ -126,10 +126,12 @@ fn key_cause(n: u64, expander: u64, string: &[u8], seed0: &[u8], seed1: &[u8], r
         return 3;
     }
     let levels = n as u16;
-    if wrong_lengths(levels, string, seed0, seed1) {
+    let wrong = wrong_lengths(levels, string, seed0, seed1);
+    let clear = spare_zero(string, levels as usize);
+    if wrong {
         return 4;
     }
-    if !spare_zero(string, levels as usize) {
+    if !clear {
         return 7;
     }
     if room < public_share_length(levels) {

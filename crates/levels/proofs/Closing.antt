@@ -1,4 +1,4 @@
--- How the levels end, from what was written and what fits. Assumes nothing.
+-- How the levels end, from what was written and what fits.
 use Prim.Native.Nat.{ℕ, _≤_}
 use native.Mathlib.Omega.{arith}
 use native.Mathlib.Nat.{zero-add}

@@ -1,4 +1,4 @@
--- The first query, and the whole search from it. Assumes nothing.
+-- The first query, and the whole search from it.
 use Prim.Native.Nat.{ℕ, suc, _+_, _-_, _*_, _%_, _≤_, _<_}
 use native.Mathlib.Omega.{arith}
 use mathlib.Core.Path.{_≡_, refl, sym, ap, ap₂, _∙_}

@@ -1,4 +1,4 @@
--- Strings and numbers in the record area, which is read and written: what is read of them after a write, and how a loop over them goes on. Assumes nothing.
+-- Strings and numbers in the record area, which is read and written: what is read of them after a write, and how a loop over them goes on.
 use Prim.Native.Nat.{ℕ, zero, suc, _+_, _-_, _*_, _≤_, _<_}
 use native.Mathlib.Omega.{arith}
 use native.Mathlib.Nat.{suc-mul}

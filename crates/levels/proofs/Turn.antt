@@ -1,4 +1,4 @@
--- One level of a search, from what its function requires to what it ensures. Assumes nothing.
+-- One level of a search, from what its function requires to what it ensures.
 use Prim.Native.Nat.{ℕ, suc, _+_, _-_, _*_, _%_, _^_, _≤_, _<_}
 use native.Mathlib.Omega.{arith}
 use native.Mathlib.Numerals.{add-one}

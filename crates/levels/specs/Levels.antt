@@ -1,4 +1,4 @@
--- The levels of a search over what two servers were lent: document 01, 'The search'. Assumes nothing.
+-- The levels of a search over what two servers were lent: document 01, 'The search'.
 use Prim.Native.Nat.{ℕ, _/_}
 use mathlib.Core.Bool.{Bool, true, false, cond, not, _||_}
 use mathlib.Core.List.{List}

@@ -1,4 +1,4 @@
--- Small facts about nodes, in the form that the code has. Assumes nothing.
+-- Small facts about nodes, in the form that the code has.
 use mathlib.Core.Path.{_≡_, refl, ap, ap₂, _∙_}
 use mathlib.Core.Bool.{Bool, true, false, not, xor, Bool·beq}
 use mathlib.Core.List.{List, [], _∷_}

@@ -1,4 +1,4 @@
--- The structs of the code as the nodes and correction words of the theory. Assumes nothing.
+-- The structs of the code as the nodes and correction words of the theory.
 use Prim.Native.Nat.{ℕ}
 use Rattle.point.specs.Node as point
 use Rattle.point.specs.Correction as words

@@ -1,4 +1,4 @@
--- Laws of numbers as bytes: a number is read back from its bytes, and bytes from their number. Assumes nothing.
+-- Laws of numbers as bytes: a number is read back from its bytes, and bytes from their number.
 use mathlib.Core.Path.{_≡_, refl, sym, ap, _∙_}
 use Prim.Native.Nat.{ℕ, zero, suc, _+_, _*_, _/_, _%_, _^_, _≤_, _<_}
 use native.Mathlib.Nat.{mod-eq-of-lt, mul-add-div-right, mul-add-mod-self-right, div-eq-of-lt, div-one, div-div-eq-div-mul}

@@ -1,4 +1,4 @@
--- What straight-line code reads and stores: outside the list, place by place, and in two halves. Assumes nothing.
+-- What straight-line code reads and stores: outside the list, place by place, and in two halves.
 use mathlib.Core.Path.{_≡_, refl, sym, ap, _∙_}
 use Prim.Native.Nat.{ℕ, zero, suc, _+_, _*_, _/_, _^_, _≤_, _<_}
 use native.Mathlib.Nat.{mul-comm}

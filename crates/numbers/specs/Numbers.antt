@@ -1,4 +1,4 @@
--- Numbers as bytes. Assumes nothing.
+-- Numbers as bytes.
 use Prim.Native.Nat.{ℕ, zero, suc, _+_, _*_, _/_, _%_, _^_}
 use mathlib.Core.List.{List, [], _∷_, _++_}
 use lib.ListN.{length}

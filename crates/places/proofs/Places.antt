@@ -1,4 +1,4 @@
--- Laws of reading and putting at a place. Assumes nothing.
+-- Laws of reading and putting at a place.
 use mathlib.Core.Path.{_≡_, refl, sym, ap, ap₂, _∙_}
 use Prim.Native.Nat.{ℕ, suc, _+_, _≤_, _<_}
 use native.Mathlib.Nat.{add-zero, zero-add, add-assoc, suc-inj}

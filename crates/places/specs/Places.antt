@@ -1,4 +1,4 @@
--- Bytes, and bytes at a place of a list: read there, and put there. A byte is a number below 256. Assumes nothing.
+-- Bytes, and bytes at a place of a list: read there, and put there. A byte is a number below 256.
 use Prim.Native.Nat.{ℕ, _+_, _<_}
 use mathlib.Core.Path.{_≡_}
 use mathlib.Core.Bool.{cond}

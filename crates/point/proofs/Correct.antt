@@ -1,5 +1,4 @@
 -- Key correctness: at every non-empty prefix the two servers' shares add to the weight on the string's path, and to zero off it.
--- Assumes nothing.
 use mathlib.Core.Path.{_≡_, refl, sym, _∙_}
 use mathlib.Core.Bool.{Bool, true, false, cond, not, xor, Bool·beq, _&&_}
 use mathlib.Core.List.{List}

@@ -1,4 +1,4 @@
--- Totals modulo m with weight one: with fewer reports than m, the total is the number of strings that have the prefix. Assumes nothing.
+-- Totals modulo m with weight one: with fewer reports than m, the total is the number of strings that have the prefix.
 use mathlib.Core.Path.{_≡_, refl, sym, ap, _∙_}
 use mathlib.Core.Bool.{Bool, true, false, cond}
 use mathlib.Core.List.{List, [], _∷_}

@@ -1,5 +1,4 @@
 -- Computed facts that pin the definitions: the sheet's A, B, C, H and I, and a key of two levels under two block functions.
--- Assumes nothing.
 use mathlib.Core.Path.{_≡_, refl}
 use mathlib.Core.Bool.{Bool, true, false, xor}
 use mathlib.Core.List.{List, [], _∷_, _++_}

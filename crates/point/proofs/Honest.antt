@@ -1,5 +1,4 @@
 -- An honest report's public share passes the tests, and a server that reads it computes the share that the theory speaks of.
--- Assumes nothing.
 use mathlib.Core.Path.{_≡_, refl}
 use mathlib.Core.Bool.{Bool, true}
 use Prim.Native.Nat.{ℕ, _^_, _<_, _≤_}

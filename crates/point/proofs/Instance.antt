@@ -1,4 +1,4 @@
--- Both expanders with the group modulo p are lawful, and what the theorems say there. Assumes nothing.
+-- Both expanders with the group modulo p are lawful, and what the theorems say there.
 use mathlib.Core.Path.{_≡_, refl}
 use mathlib.Core.Bool.{true, false, cond}
 use mathlib.Core.List.{List}

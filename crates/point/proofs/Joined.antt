@@ -1,4 +1,4 @@
--- Laws of the parts of a public share: pieces joined, and binary digits lowest first. Assumes nothing.
+-- Laws of the parts of a public share: pieces joined, and binary digits lowest first.
 use mathlib.Core.Path.{_≡_, refl, sym, ap, ap₂, _∙_}
 use mathlib.Core.Bool.{Bool, true, false, _&&_, true≢false}
 use mathlib.Core.List.{List, [], _∷_, _++_}

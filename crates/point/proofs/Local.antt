@@ -1,4 +1,4 @@
--- What a node and a share depend on: the levels above them alone, and one step from the prefix one bit shorter. Assumes nothing.
+-- What a node and a share depend on: the levels above them alone, and one step from the prefix one bit shorter.
 use mathlib.Core.Path.{_≡_, refl, ap₂}
 use mathlib.Core.Bool.{Bool, false}
 use mathlib.Core.List.{List, [], _∷_}

@@ -1,4 +1,4 @@
--- Key correctness at prefixes: two bit strings agree on the length of one exactly when it is a prefix of the other. Assumes nothing.
+-- Key correctness at prefixes: two bit strings agree on the length of one exactly when it is a prefix of the other.
 use mathlib.Core.Path.{_≡_, refl, sym, ap, _∙_}
 use mathlib.Core.Bool.{Bool, true, false, cond, Bool·beq, _&&_, and-assoc, and-true}
 use mathlib.Core.List.{List, [], _∷_}

@@ -1,4 +1,4 @@
--- Reading a public share gives back every correction word, and the tests pass for exactly the bytes that are one. Assumes nothing.
+-- Reading a public share gives back every correction word, and the tests pass for exactly the bytes that are one.
 use mathlib.Core.Path.{_≡_, refl, sym, ap, ap₂, _∙_}
 use mathlib.Core.Logic.{_↔_}
 use mathlib.Core.Bool.{true, false, or-true, true≢false}

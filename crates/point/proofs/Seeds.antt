@@ -1,4 +1,4 @@
--- Seeds stay seeds: a cleared block, and a corrected child, are 16 bytes. Assumes nothing.
+-- Seeds stay seeds: a cleared block, and a corrected child, are 16 bytes.
 use mathlib.Core.Bool.{Bool, true, false}
 use mathlib.Core.List.{List, [], _∷_}
 use Prim.Native.Nat.{ℕ, zero, suc}

@@ -1,4 +1,4 @@
--- Totals over honest reports: both servers' sums add to the sum of the holders' weights. Assumes nothing.
+-- Totals over honest reports: both servers' sums add to the sum of the holders' weights.
 use mathlib.Core.Path.{_≡_, refl, sym, ap, ap₂, _∙_}
 use mathlib.Core.Bool.{Bool, true, false, cond}
 use mathlib.Core.List.{List, [], _∷_}

@@ -1,4 +1,4 @@
--- Correction words: what is public of one level, and how a server uses it. Assumes nothing.
+-- Correction words: what is public of one level, and how a server uses it.
 use Prim.Native.Nat.{ℕ}
 use mathlib.Core.Bool.{Bool, true, false, cond, xor}
 use mathlib.Core.List.{List}

@@ -1,4 +1,4 @@
--- A server's node and share at a prefix, from its root seed and the public correction words. Assumes nothing.
+-- A server's node and share at a prefix, from its root seed and the public correction words.
 use Prim.Native.Nat.{ℕ, zero, suc}
 use mathlib.Core.Bool.{Bool, false, cond}
 use mathlib.Core.List.{List}

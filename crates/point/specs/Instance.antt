@@ -1,4 +1,4 @@
--- The two expanders with the group modulo p. Assumes nothing.
+-- The two expanders with the group modulo p.
 use Prim.Native.Nat.{ℕ, _%_}
 use mathlib.Core.List.{List}
 use lib.ListN.{take}

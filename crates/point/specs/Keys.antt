@@ -1,4 +1,4 @@
--- The key maker: the correction words of a string's levels, document 01, 'Keys and nodes'. Assumes nothing.
+-- The key maker: the correction words of a string's levels, document 01, 'Keys and nodes'.
 use Prim.Native.Nat.{ℕ, zero, suc}
 use mathlib.Core.Bool.{Bool, true, false, cond, not, xor}
 use mathlib.Core.List.{List}

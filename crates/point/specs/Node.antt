@@ -1,4 +1,4 @@
--- Nodes of the tree: children, final seed and payload from the blocks of a seed. Assumes nothing.
+-- Nodes of the tree: children, final seed and payload from the blocks of a seed.
 use Prim.Native.Nat.{ℕ, _*_, _/_, _%_}
 use mathlib.Core.Bool.{Bool}
 use mathlib.Core.List.{List, [], _∷_}

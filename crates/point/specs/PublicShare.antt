@@ -1,4 +1,4 @@
--- The public share of a report as bytes, document 01, 'Public share', and how it is read. Assumes nothing.
+-- The public share of a report as bytes, document 01, 'Public share', and how it is read.
 use Prim.Native.Nat.{ℕ, zero, suc, _+_, _*_, _/_, _%_, _^_, _<_}
 use mathlib.Core.Bool.{Bool, true, false, cond, _&&_, _||_}
 use mathlib.Core.List.{List, [], _∷_, _++_}

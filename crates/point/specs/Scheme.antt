@@ -1,4 +1,4 @@
--- What the point function stands on: any block function, any commutative group, any way to draw a payload. Assumes nothing.
+-- What the point function stands on: any block function, any commutative group, any way to draw a payload.
 use Prim.Native.Nat.{ℕ}
 use mathlib.Core.List.{List}
 use Rattle.places.specs.Places.{Bytes}

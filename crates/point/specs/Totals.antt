@@ -1,4 +1,4 @@
--- Reports as their installations made them, each server's share of one, and totals. Assumes nothing.
+-- Reports as their installations made them, each server's share of one, and totals.
 use Prim.Native.Nat.{ℕ}
 use mathlib.Core.Path.{_≡_}
 use mathlib.Core.Bool.{Bool, true, false, cond}

@@ -1,4 +1,4 @@
--- The tests of a query, in their order. Assumes nothing.
+-- The tests of a query, in their order.
 use Prim.Native.Nat.{ℕ, _+_, _*_, _≤_, _<_}
 use native.Mathlib.Nat.{mul-le-mul}
 use mathlib.Core.Path.{_≡_, _∙_}

@@ -1,4 +1,4 @@
--- Children of prefixes: which they are, how many, and in which order. Assumes nothing.
+-- Children of prefixes: which they are, how many, and in which order.
 use Prim.Native.Nat.{ℕ, suc, _*_}
 use native.Mathlib.Omega.{arith}
 use mathlib.Core.Path.{_≡_, refl, ap}

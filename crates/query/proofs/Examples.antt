@@ -1,4 +1,4 @@
--- Computed facts that pin the definitions: a query written, read, passed and refused, and the limit. Assumes nothing.
+-- Computed facts that pin the definitions: a query written, read, passed and refused, and the limit.
 use Prim.Native.Nat.{ℕ, _*_}
 use mathlib.Core.Path.{_≡_, refl}
 use mathlib.Core.Bool.{true, false}

@@ -1,4 +1,4 @@
--- The prefixes of a query, one after the other: how a loop over them goes on. Assumes nothing.
+-- The prefixes of a query, one after the other: how a loop over them goes on.
 use Prim.Native.Nat.{ℕ, zero, suc, _+_, _-_, _*_, _≤_, _<_}
 use native.Mathlib.Omega.{arith}
 use native.Mathlib.Nat.{suc-mul}

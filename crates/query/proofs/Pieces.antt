@@ -1,4 +1,4 @@
--- Packed strings one after the other, with a number each: what is written of those that are kept, and how a loop over them goes on. Assumes nothing.
+-- Packed strings one after the other, with a number each: what is written of those that are kept, and how a loop over them goes on.
 use Prim.Native.Nat.{ℕ, zero, suc, _+_, _-_, _*_, _≤_, _<_}
 use native.Mathlib.Omega.{arith}
 use mathlib.Core.Path.{_≡_, refl, sym, ap, _∙_}

@@ -1,4 +1,4 @@
--- The place of a prefix in a query: whether it lies within. Assumes nothing.
+-- The place of a prefix in a query: whether it lies within.
 use Prim.Native.Nat.{ℕ, suc, _+_, _*_, _/_, _≤_, _<_}
 use native.Mathlib.Omega.{arith}
 use native.Mathlib.Nat.{suc-mul, le-div-iff-mul-le, div-lt-iff-lt-mul}

@@ -1,4 +1,4 @@
--- Queries as bytes: reading gives back what was written, and the check of cause 9 is exact. Assumes nothing.
+-- Queries as bytes: reading gives back what was written, and the check of cause 9 is exact.
 use Prim.Native.Nat.{ℕ, zero, suc, _+_, _*_, _≤_, _<_}
 use native.Mathlib.Omega.{arith}
 use native.Mathlib.Nat.{zero-mul, suc-mul, mul-le-mul-right}

@@ -1,4 +1,4 @@
--- What callers have of a query that passes, and of each of its prefixes. Assumes nothing.
+-- What callers have of a query that passes, and of each of its prefixes.
 use Prim.Native.Nat.{ℕ, _+_, _*_, _≤_, _<_}
 use native.Mathlib.Omega.{arith}
 use native.Mathlib.Nat.{suc-mul, mul-le-mul-right}

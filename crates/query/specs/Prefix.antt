@@ -1,4 +1,4 @@
--- One prefix of a query, read in place. Assumes nothing.
+-- One prefix of a query, read in place.
 use Prim.Native.Nat.{ℕ, _+_, _*_}
 use mathlib.Core.Bool.{cond}
 use mathlib.Core.List.{List, []}

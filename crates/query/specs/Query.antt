@@ -1,4 +1,4 @@
--- Document 01, 'Query': the prefixes that two servers are asked about, as bytes. Assumes nothing.
+-- Document 01, 'Query': the prefixes that two servers are asked about, as bytes.
 use Prim.Native.Nat.{ℕ, zero, suc, _+_, _*_, _≤_, _<_}
 use mathlib.Core.Path.{_≡_}
 use mathlib.Core.Bool.{Bool, true, false, _&&_}

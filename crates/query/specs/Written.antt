@@ -1,4 +1,4 @@
--- What is written of one prefix. Assumes nothing.
+-- What is written of one prefix.
 use Prim.Native.Nat.{ℕ, _+_}
 use mathlib.Core.Bool.{true, false, cond}
 use mathlib.Core.List.{List, [], _++_}

@@ -1,4 +1,4 @@
--- The reports that a server is lent: how many, where each lies, and the sum over them, in the form that the code has. Assumes nothing.
+-- The reports that a server is lent: how many, where each lies, and the sum over them, in the form that the code has.
 use mathlib.Core.Path.{_≡_, refl, sym, ap, ap₂, _∙_}
 use mathlib.Core.Bool.{Bool, cond}
 use mathlib.Core.List.{List}

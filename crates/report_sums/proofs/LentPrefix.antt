@@ -1,4 +1,4 @@
--- A server's sum at a prefix depends on the prefix's bits alone, whatever bytes it is packed in and whatever bytes are lent. Assumes nothing.
+-- A server's sum at a prefix depends on the prefix's bits alone, whatever bytes it is packed in and whatever bytes are lent.
 use mathlib.Core.Path.{_≡_, refl, sym, ap₂}
 use mathlib.Core.Bool.{Bool, false, cond}
 use mathlib.Core.List.{List}

@@ -1,4 +1,4 @@
--- The tests of causes 4, 6 and 7, in the form that the code has. Assumes nothing.
+-- The tests of causes 4, 6 and 7, in the form that the code has.
 use mathlib.Core.Path.{_≡_, refl}
 use mathlib.Core.Bool.{Bool, true, false, not}
 use mathlib.Core.List.{List}

@@ -1,4 +1,4 @@
--- What causes 4, 6 and 7 say of the reports that a server is lent. Assumes nothing.
+-- What causes 4, 6 and 7 say of the reports that a server is lent.
 use Prim.Native.Nat.{ℕ, _*_, _/_, _%_, _≤_, _<_}
 use mathlib.Core.Path.{_≡_}
 use mathlib.Core.Bool.{Bool, true, not, _||_}

@@ -1,4 +1,4 @@
--- The reports that a server is lent, which of them count, and its sum over these at one prefix. Assumes nothing.
+-- The reports that a server is lent, which of them count, and its sum over these at one prefix.
 use Prim.Native.Nat.{ℕ, zero, suc, _*_, _/_, min}
 use mathlib.Core.Bool.{Bool, true, cond}
 use mathlib.Core.List.{List}

@@ -1,4 +1,4 @@
--- The lengths and the two areas after a search: refused, refused with 11, and accepted. Assumes nothing.
+-- The lengths and the two areas after a search: refused, refused with 11, and accepted.
 use Prim.Native.Nat.{_≤_}
 use mathlib.Core.Path.{_≡_, refl, ap, _∙_}
 use mathlib.Core.Bool.{Bool, true, false}

@@ -1,4 +1,4 @@
--- The number, the lengths and the areas of a search: refused for what is lent, or as its levels end. Assumes nothing.
+-- The number, the lengths and the areas of a search: refused for what is lent, or as its levels end.
 use Prim.Native.Nat.{ℕ, _+_, _≤_}
 use native.Mathlib.Omega.{arith}
 use mathlib.Core.Path.{_≡_, refl, sym, ap, _∙_}

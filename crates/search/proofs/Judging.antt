@@ -1,4 +1,4 @@
--- The tests of causes 6, 7 and 8: alternatives told by their opposites, and two lists of bytes, place by place. Assumes nothing.
+-- The tests of causes 6, 7 and 8: alternatives told by their opposites, and two lists of bytes, place by place.
 use Prim.Native.Nat.{ℕ, _+_, _≤_, _<_}
 use native.Mathlib.Omega.{arith}
 use native.Mathlib.Numerals.{add-one}

@@ -1,4 +1,4 @@
--- What the number of a search tells of its causes. Assumes nothing.
+-- What the number of a search tells of its causes.
 use Prim.Native.Nat.{ℕ, _*_, _/_, _%_, _≤_, _<_}
 use native.Mathlib.Omega.{arith}
 use native.Mathlib.Nat.{min-eq-left, mul-comm, div-add-mod'}

@@ -1,5 +1,5 @@
 -- The search rule at what was lent: totals are sums of shares, and where they are the numbers of strings that have a prefix, record and list are
--- those of the strings. Assumes nothing.
+-- those of the strings.
 use Prim.Native.Nat.{ℕ, _+_, _%_, _≤_, _<_}
 use native.Mathlib.Omega.{arith}
 use mathlib.Core.Path.{_≡_, ap, _∙_}

@@ -1,4 +1,4 @@
--- `sameBytes` tells whether two lists are equal. Assumes nothing.
+-- `sameBytes` tells whether two lists are equal.
 use Prim.Native.Nat.{ℕ}
 use mathlib.Core.Path.{_≡_, refl, ap₂}
 use mathlib.Core.Bool.{true}

@@ -1,4 +1,4 @@
--- The number that a search returns is the one that is due, where the public shares are bytes. Assumes nothing.
+-- The number that a search returns is the one that is due, where the public shares are bytes.
 use Prim.Native.Nat.{ℕ, _<_}
 use mathlib.Core.Path.{sym, _∙_}
 use mathlib.Core.Bool.{Bool, not, true≢false, _||_}

@@ -1,4 +1,4 @@
--- The call `search`: document 01, 'The search' and 'Causes of refusal'. Assumes nothing.
+-- The call `search`: document 01, 'The search' and 'Causes of refusal'.
 use Prim.Native.Nat.{ℕ, _/_, _<_}
 use mathlib.Core.Bool.{Bool, true, false, cond, not, _&&_, _||_}
 use mathlib.Core.List.{List, [], _∷_, _++_}

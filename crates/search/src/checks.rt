@@ -92,13 +92,16 @@ fn amount_cause(n: u16, seeds0: &[u8], shares0: &[u8], seeds1: &[u8], shares1: &
 fn public_share_cause(n: u16, seeds0: &[u8], shares0: &[u8], seeds1: &[u8], shares1: &[u8]) -> u64
     ensures { λ r. ⌜ r ≡ numberDue (publicShareCauses n (now (seeds0 .entry)) (now (shares0 .entry)) (now (seeds1 .entry)) (now (shares1 .entry))) ⌝ }
 {
-    if payload_too_large(n, seeds0, shares0, seeds1, shares1) {
+    let large = payload_too_large(n, seeds0, shares0, seeds1, shares1);
+    let spare = spare_bits_set(n, seeds0, shares0, seeds1, shares1);
+    let same = same_bytes(shares0, shares1);
+    if large {
         return 6;
     }
-    if spare_bits_set(n, seeds0, shares0, seeds1, shares1) {
+    if spare {
         return 7;
     }
-    if !same_bytes(shares0, shares1) {
+    if !same {
         return 8;
     }
     0

@@ -1,4 +1,4 @@
--- The outcome of `add_shares`, case by case, what follows where no cause applies, and that its number is the one that is due. Assumes nothing.
+-- The outcome of `add_shares`, case by case, what follows where no cause applies, and that its number is the one that is due.
 use Prim.Native.Nat.{ℕ, _≤_, _<_}
 use native.Mathlib.Omega.{arith}
 use mathlib.Core.Path.{_≡_}

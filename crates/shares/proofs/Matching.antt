@@ -1,4 +1,4 @@
--- Whether two shares match and their numbers are below p: the tests decide what they say. Assumes nothing.
+-- Whether two shares match and their numbers are below p: the tests decide what they say.
 use Prim.Native.Nat.{ℕ, _%_, _≤_}
 use mathlib.Core.Path.{_≡_, refl, sym, subst}
 use mathlib.Core.Bool.{Bool, true, false, not, true≢false, _&&_, _||_}

@@ -1,4 +1,4 @@
--- The numbers of two shares, and their sums, one after the other: how a loop over them goes on. Assumes nothing.
+-- The numbers of two shares, and their sums, one after the other: how a loop over them goes on.
 use Prim.Native.Nat.{ℕ, zero, suc, _+_, _-_, _/_, _≤_, _<_}
 use native.Mathlib.Omega.{arith}
 use mathlib.Core.Path.{_≡_, refl}

@@ -1,4 +1,4 @@
--- The sums of two shares as they are written, one after the other. Assumes nothing.
+-- The sums of two shares as they are written, one after the other.
 use Prim.Native.Nat.{ℕ, _+_, _-_, _*_, _/_, _≤_, _<_}
 use native.Mathlib.Omega.{arith}
 use mathlib.Core.Path.{_≡_, sym, ap, _∙_}

@@ -1,4 +1,4 @@
--- The call `add_shares`: two shares of one server for one query, added. Assumes nothing.
+-- The call `add_shares`: two shares of one server for one query, added.
 use Prim.Native.Nat.{ℕ}
 use mathlib.Core.List.{List, [], _∷_}
 use lib.ListN.{length}

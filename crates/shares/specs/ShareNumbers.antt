@@ -1,4 +1,4 @@
--- Two shares as numbers, whether of two servers or of one: document 01, 'The group and the expanders' and 'Causes of refusal'. Assumes nothing.
+-- Two shares as numbers, whether of two servers or of one: document 01, 'The group and the expanders' and 'Causes of refusal'.
 use Prim.Native.Nat.{ℕ, _/_, _%_, _≤_}
 use mathlib.Core.Bool.{Bool, true, not, _&&_, _||_}
 use mathlib.Core.List.{List, [], _∷_, map}

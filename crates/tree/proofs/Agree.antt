@@ -1,4 +1,4 @@
--- A search for strings of n bits depends on the totals of prefixes of 1 to n bits alone. Assumes nothing.
+-- A search for strings of n bits depends on the totals of prefixes of 1 to n bits alone.
 use Prim.Native.Nat.{ℕ, zero, suc, _+_, _≤_, _<_}
 use native.Mathlib.Omega.{arith}
 use mathlib.Core.Path.{_≡_, refl, ap, ap₂, _∙_}

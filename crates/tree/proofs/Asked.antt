@@ -1,4 +1,4 @@
--- What a search asks next is a query. Assumes nothing.
+-- What a search asks next is a query.
 use Prim.Native.Nat.{ℕ, _≤_, _<_}
 use native.Mathlib.Omega.{arith}
 use mathlib.Core.Path.{refl}

@@ -1,4 +1,4 @@
--- Cut strings: which prefixes they have, and how often a string stands among them. Assumes nothing.
+-- Cut strings: which prefixes they have, and how often a string stands among them.
 use Prim.Native.Nat.{ℕ, zero, suc, _<_}
 use native.Mathlib.Omega.{arith}
 use native.Mathlib.Nat.{suc-inj, suc-ne-zero}

@@ -1,4 +1,4 @@
--- Demands 2 and 3 on strings: what the list of an honest search holds, and what its record tells. Assumes nothing.
+-- Demands 2 and 3 on strings: what the list of an honest search holds, and what its record tells.
 use Prim.Native.Nat.{ℕ, zero, suc, _^_, _≤_, _<_}
 use native.Mathlib.Omega.{arith}
 use mathlib.Core.Path.{_≡_, sym, ap, ap₂, _∙_}

@@ -1,4 +1,4 @@
--- Computed facts that pin the definitions: the first query, cut strings, searches that end, and space. Assumes nothing.
+-- Computed facts that pin the definitions: the first query, cut strings, searches that end, and space.
 use Prim.Native.Nat.{zero, suc}
 use native.Mathlib.Omega.{arith}
 use mathlib.Core.Path.{_≡_, refl, ap}

@@ -1,4 +1,4 @@
--- Which prefixes a search keeps, for any totals. Assumes nothing.
+-- Which prefixes a search keeps, for any totals.
 use Prim.Native.Nat.{ℕ, zero, suc, _+_, _-_}
 use native.Mathlib.Omega.{arith}
 use native.Mathlib.Nat.{add-zero, zero-add, add-suc, suc-add, suc-ne-zero, suc-inj}

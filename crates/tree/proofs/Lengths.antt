@@ -1,4 +1,4 @@
--- Lengths in bytes of what a search writes, and space that is enough. Assumes nothing.
+-- Lengths in bytes of what a search writes, and space that is enough.
 use Prim.Native.Nat.{ℕ, zero, suc, _+_, _*_, _/_, _^_, _≤_, min}
 use native.Mathlib.Omega.{arith}
 use native.Mathlib.Nat.{suc-mul, mul-le-mul, mul-le-mul-right, min-le-left, min-le-right, le-min, le-trans, pow-succ'}

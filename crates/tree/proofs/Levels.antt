@@ -1,4 +1,4 @@
--- One level of a search and those below it, as bytes in the record area: words for the contracts of the functions that write them. Assumes nothing.
+-- One level of a search and those below it, as bytes in the record area: words for the contracts of the functions that write them.
 use Prim.Native.Nat.{ℕ, _+_, _≤_, _<_}
 use mathlib.Core.Path.{_≡_}
 use mathlib.Core.Bool.{Bool, true}

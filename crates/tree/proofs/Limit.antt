@@ -1,4 +1,4 @@
--- When every query of a search is within the limit. Assumes nothing.
+-- When every query of a search is within the limit.
 use Prim.Native.Nat.{ℕ, zero, suc, _≤_, _<_}
 use native.Mathlib.Omega.{arith}
 use mathlib.Core.Path.{_≡_, refl}

@@ -1,4 +1,4 @@
--- The listed prefixes of a string are its non-empty prefixes, and a cut string is the shortest of them that is light. Assumes nothing.
+-- The listed prefixes of a string are its non-empty prefixes, and a cut string is the shortest of them that is light.
 use Prim.Native.Nat.{ℕ, _≤_, _<_}
 use native.Mathlib.Omega.{arith}
 use mathlib.Core.Path.{_≡_, refl, sym, ap, _∙_}

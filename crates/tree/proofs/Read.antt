@@ -1,4 +1,4 @@
--- Totals are read as they were written. Assumes nothing.
+-- Totals are read as they were written.
 use Prim.Native.Nat.{ℕ, _^_, _<_}
 use mathlib.Core.Path.{_≡_, refl, ap₂}
 use mathlib.Core.List.{List, [], _∷_, _++_, map, append-assoc}

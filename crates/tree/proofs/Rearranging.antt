@@ -1,4 +1,4 @@
--- Counting does not depend on the order, and a strictly ascending list has no string twice. Assumes nothing.
+-- Counting does not depend on the order, and a strictly ascending list has no string twice.
 use Prim.Native.Nat.{_+_, _≤_, _<_}
 use native.Mathlib.Omega.{arith}
 use mathlib.Core.Path.{_≡_, refl, sym, ap, _∙_}

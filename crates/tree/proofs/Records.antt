@@ -1,4 +1,4 @@
--- Two searches side by side: their records are equal exactly when their totals agree wherever one of them asks. Assumes nothing.
+-- Two searches side by side: their records are equal exactly when their totals agree wherever one of them asks.
 use Prim.Native.Nat.{ℕ, zero, suc, _^_, _<_}
 use native.Mathlib.Omega.{arith}
 use mathlib.Core.Path.{_≡_, refl, sym, ap, ap₂, _∙_}

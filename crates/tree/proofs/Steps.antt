@@ -1,4 +1,4 @@
--- The search as a loop: what one level adds, and what is left once nothing is kept. Assumes nothing.
+-- The search as a loop: what one level adds, and what is left once nothing is kept.
 use Prim.Native.Nat.{ℕ, zero, suc, _+_, _-_, _≤_, _<_}
 use native.Mathlib.Omega.{arith}
 use native.Mathlib.Nat.{add-zero}

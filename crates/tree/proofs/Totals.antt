@@ -1,4 +1,4 @@
--- Honest totals: children's totals add to their parent's, and queries are short. Assumes nothing.
+-- Honest totals: children's totals add to their parent's, and queries are short.
 use Prim.Native.Nat.{ℕ, zero, suc, _+_, _*_, _/_, _≤_, _<_}
 use native.Mathlib.Omega.{arith}
 use native.Mathlib.Nat.{zero-add, add-zero, add-suc, suc-add, suc-ne-zero, le-trans, le-div-iff-mul-le, div-le-self}

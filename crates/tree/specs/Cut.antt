@@ -1,4 +1,4 @@
--- Document 01, 'Words of demand 3', and demand 3's own: honest searches, cut strings, rearrangements. Assumes nothing.
+-- Document 01, 'Words of demand 3', and demand 3's own: honest searches, cut strings, rearrangements.
 use Prim.Native.Nat.{ℕ, _≤_}
 use mathlib.Core.Path.{_≡_}
 use mathlib.Core.Bool.{Bool, true, false, cond, _&&_, Bool·beq}

@@ -1,4 +1,4 @@
--- Document 01, 'The search': the search rule, over any totals and any test of a total. Assumes nothing.
+-- Document 01, 'The search': the search rule, over any totals and any test of a total.
 use Prim.Native.Nat.{ℕ, zero, suc, _<_}
 use mathlib.Core.Path.{_≡_}
 use mathlib.Core.Bool.{Bool, true, _&&_}

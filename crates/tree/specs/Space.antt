@@ -1,4 +1,4 @@
--- Lengths in bytes, and space that is enough for an honest search. Assumes nothing.
+-- Lengths in bytes, and space that is enough for an honest search.
 use Prim.Native.Nat.{ℕ, zero, suc, _+_, _*_, _/_, _^_, min}
 use Rattle.bits.specs.Packing.{packedLength}
 use Rattle.tree.specs.SearchRule.{headingLength}

@@ -1,4 +1,4 @@
--- A loop in a walk by hand whose turns are counted: turn i of n leads from what holds at i to what holds at i + 1, and at n the loop is left. Assumes nothing.
+-- A loop in a walk by hand whose turns are counted: turn i of n leads from what holds at i to what holds at i + 1, and at n the loop is left.
 use mathlib.Core.Path.{_≡_, sym, _∙_, subst}
 use Prim.Native.Nat.{ℕ, zero, suc, _+_, _<_}
 use native.Mathlib.Nat.{add-zero, add-suc, suc-add, zero-add, lt-of-le-of-lt, le-add-right, lt-suc-self}

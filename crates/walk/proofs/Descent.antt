@@ -1,4 +1,4 @@
--- A step of a server's walk, in the form that the code has. Assumes nothing.
+-- A step of a server's walk, in the form that the code has.
 use mathlib.Core.Path.{_≡_, refl, ap, _∙_}
 use mathlib.Core.Bool.{Bool, true, false, cond}
 use mathlib.Core.List.{List}

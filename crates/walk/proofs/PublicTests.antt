@@ -1,4 +1,4 @@
--- The tests of causes 6 and 7 on one public share, in the form that the code has. Assumes nothing.
+-- The tests of causes 6 and 7 on one public share, in the form that the code has.
 use mathlib.Core.Path.{_≡_, refl, ap₂}
 use mathlib.Core.Bool.{Bool, true, _&&_}
 use mathlib.Core.List.{List}

@@ -1,4 +1,4 @@
--- Two packed prefixes whose first k bits agree: how the code finds that, and that their nodes are the same. Assumes nothing.
+-- Two packed prefixes whose first k bits agree: how the code finds that, and that their nodes are the same.
 use mathlib.Core.Path.{_≡_, refl, sym, _∙_}
 use mathlib.Core.Bool.{Bool, true, false, not, Bool·beq}
 use Prim.Native.Nat.{ℕ, _-_, _≤_, _<_}

@@ -1,4 +1,4 @@
--- `aes::encrypt_two_with` meets its contract. After j steps of the loop the key and both states are those after j rounds. Assumes nothing.
+-- `aes::encrypt_two_with` meets its contract. After j steps of the loop the key and both states are those after j rounds.
 use mathlib.Core.Path.{_≡_, _∙_}
 use Prim.Native.Nat.{_-_, _≤_}
 use native.Mathlib.Omega.{arith}

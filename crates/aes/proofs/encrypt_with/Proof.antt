@@ -1,4 +1,4 @@
--- `aes::encrypt_with` meets its contract. After i steps of the loop the key and the state are those after i rounds. Assumes nothing.
+-- `aes::encrypt_with` meets its contract. After i steps of the loop the key and the state are those after i rounds.
 use mathlib.Core.Path.{_≡_, _∙_}
 use Prim.Native.Nat.{_-_, _≤_}
 use native.Mathlib.Omega.{arith}

@@ -1,4 +1,4 @@
--- `aes::last_round_key_with` meets its contract. After n steps of the loop the key is the round key of round n. Assumes nothing.
+-- `aes::last_round_key_with` meets its contract. After n steps of the loop the key is the round key of round n.
 use mathlib.Core.Path.{_≡_, refl, ap₂, _∙_}
 use Prim.Native.Nat.{_-_, _≤_}
 use native.Mathlib.Omega.{arith}

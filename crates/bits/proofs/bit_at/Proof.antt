@@ -1,4 +1,4 @@
--- `bits::bit_at` meets its contract. A bit of the bytes is a digit of one of them. Assumes nothing.
+-- `bits::bit_at` meets its contract. A bit of the bytes is a digit of one of them.
 use borrow.Author.Needs.{needs}
 use mathlib.Core.Path.{sym}
 use denote.Ref.{now}

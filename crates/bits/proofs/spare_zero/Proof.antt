@@ -1,4 +1,4 @@
--- `bits::spare_zero` meets its contract. The byte that holds bit n is tested by a remainder, those after it one by one. Assumes nothing.
+-- `bits::spare_zero` meets its contract. The byte that holds bit n is tested by a remainder, those after it one by one.
 use borrow.Author.Needs.{needs}
 use Prim.Native.Nat.{_/_}
 use native.Mathlib.Omega.{arith}

@@ -1,4 +1,4 @@
--- `calls::outside` meets its contract. Its two tests are the definition's. Assumes nothing.
+-- `calls::outside` meets its contract. Its two tests are the definition's.
 use Rattle.calls.proofs.Decisions.{below-bounds, outside-above}
 use Rattle.calls.proofs.outside.Statement.{statement}
 use Rattle.calls.proofs.outside.Tie as tie

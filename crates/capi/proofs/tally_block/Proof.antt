@@ -1,4 +1,4 @@
--- `capi::tally_block` meets its contract: at each return the tests that led there say which outcome is the call's. Assumes nothing.
+-- `capi::tally_block` meets its contract: at each return the tests that led there say which outcome is the call's.
 use mathlib.Core.Path.{refl, sym, ap, _∙_}
 use mathlib.Core.List.{List}
 use lib.ListN.{length}

@@ -1,5 +1,4 @@
 -- `capi::tally_combine` meets its contract: each case of the answer has the number, the kind and the length that combining's contract gives it.
--- Assumes nothing.
 use borrow.Author.Needs.{needs}
 use Rattle.capi.proofs.Combined.{told-in-c}
 use Rattle.capi.proofs.tally_combine.Statement.{statement}

@@ -1,4 +1,4 @@
--- `combine::combine` meets its contract: where no cause of what is lent applies the query passes, and what is written is known by its size. Assumes nothing.
+-- `combine::combine` meets its contract: where no cause of what is lent applies the query passes, and what is written is known by its size.
 use Prim.Native.Nat.{ℕ, suc, _*_, _≤_, _<_}
 use native.Mathlib.Omega.{arith}
 use mathlib.Core.Path.{_≡_, sym, ap, _∙_}

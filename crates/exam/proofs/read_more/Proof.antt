@@ -1,4 +1,4 @@
--- `exam::read_more` meets its contract: the read changes the part from `done` on alone. Assumes nothing.
+-- `exam::read_more` meets its contract: the read changes the part from `done` on alone.
 use borrow.Author.Needs.{needs}
 use lib.Seq.{take-at, length-take-le}
 use Rattle.exam.proofs.read_more.Statement.{statement}

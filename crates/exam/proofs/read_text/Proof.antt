@@ -1,4 +1,4 @@
--- `exam::read_text` meets its contract. The invariant: the length stays, and what was read lies within. The measure is what is left. Assumes nothing.
+-- `exam::read_text` meets its contract. The invariant: the length stays, and what was read lies within. The measure is what is left.
 use Rattle.exam.proofs.read_text.Statement.{statement}
 use Rattle.exam.proofs.read_text.Tie as tie
 use mathlib.Core.Path.{_≡_, refl}

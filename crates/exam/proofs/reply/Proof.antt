@@ -1,4 +1,4 @@
--- `exam::reply` meets its contract: in this space `respond` leaves the whole output. Assumes nothing.
+-- `exam::reply` meets its contract: in this space `respond` leaves the whole output.
 use mathlib.Core.Path.{ap, ap₂, _∙_}
 use borrow.Author.Needs.{needs}
 use lib.ListN.{take}

@@ -1,4 +1,4 @@
--- `exam_answering::respond` meets its contract: the answer, or the line of its refusal. Assumes nothing.
+-- `exam_answering::respond` meets its contract: the answer, or the line of its refusal.
 use borrow.Author.Needs.{needs}
 use Rattle.calls.proofs.Judged.{replied, reply-parts}
 use Rattle.exam_answering.proofs.Responding.{answer-replied, space-replied, line-replied}

@@ -1,4 +1,4 @@
--- `exam_lines::has_room` meets its contract. Assumes nothing.
+-- `exam_lines::has_room` meets its contract.
 use Prim.Native.Nat.{ℕ, _+_, _-_, _≤_}
 use native.Mathlib.Omega.{arith}
 use native.Mathlib.Decide.{decLt}

@@ -1,4 +1,4 @@
--- `exam_lines::refused_line` meets its contract. Assumes nothing.
+-- `exam_lines::refused_line` meets its contract.
 use Prim.Native.Nat.{_+_}
 use native.Mathlib.Omega.{arith}
 use mathlib.Core.Path.{_≡_, refl, sym}

@@ -1,4 +1,4 @@
--- `exam_lines::write_heavy_line` meets its contract. Assumes nothing.
+-- `exam_lines::write_heavy_line` meets its contract.
 use mathlib.Core.Path.{sym, _∙_}
 use borrow.Author.Needs.{needs}
 use borrow.Author.Tests.{not-true, not-false}

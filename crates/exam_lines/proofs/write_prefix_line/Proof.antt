@@ -1,4 +1,4 @@
--- `exam_lines::write_prefix_line` meets its contract. Assumes nothing.
+-- `exam_lines::write_prefix_line` meets its contract.
 use Prim.Native.Nat.{ℕ, _+_}
 use mathlib.Core.Path.{_≡_, sym, _∙_}
 use mathlib.Core.List.{List}

@@ -1,4 +1,4 @@
--- `exam_reading::read_line` meets its contract: where a line stands, its parts are read at their places. Assumes nothing.
+-- `exam_reading::read_line` meets its contract: where a line stands, its parts are read at their places.
 use native.Mathlib.Omega.{arith}
 use mathlib.Core.Path.{_≡_, refl, sym, ap, _∙_}
 use mathlib.Core.Bool.{true}

@@ -1,4 +1,4 @@
--- `exam_reading::read_sheet` meets its contract. Each test that fails is one of the definition's, after those that pass. Assumes nothing.
+-- `exam_reading::read_sheet` meets its contract. Each test that fails is one of the definition's, after those that pass.
 use borrow.Author.Needs.{needs}
 use native.Mathlib.Omega.{arith}
 use mathlib.Core.Path.{_≡_, sym, _∙_}

@@ -1,4 +1,4 @@
--- `exam_reports::fit` meets its contract. The tests are one, by cases. Assumes nothing.
+-- `exam_reports::fit` meets its contract. The tests are one, by cases.
 use Prim.Native.Nat.{_*_, _≤_}
 use native.Mathlib.Nat.{mul-le-mul-left}
 use native.Mathlib.Omega.{arith}

@@ -1,4 +1,4 @@
--- `exam_reports::make_reports` meets its contract: each test is one of those that the reports are made by, and what is then written are they. Assumes nothing.
+-- `exam_reports::make_reports` meets its contract: each test is one of those that the reports are made by, and what is then written are they.
 use mathlib.Core.Path.{_≡_, sym, ap, _∙_}
 use mathlib.Core.Bool.{true, false, _&&_}
 use mathlib.Core.List.{List}

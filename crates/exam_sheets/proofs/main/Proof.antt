@@ -1,4 +1,4 @@
--- `exam_sheets::main` meets its contract: the arguments that are left become fewer. Assumes nothing.
+-- `exam_sheets::main` meets its contract: the arguments that are left become fewer.
 use Prim.Native.Nat.{_-_}
 use native.Mathlib.Omega.{arith}
 use borrow.Author.Needs.{needs}

@@ -1,4 +1,4 @@
--- `exam_sheets::show` meets its contract: what `answer` wrote is within the space. Assumes nothing.
+-- `exam_sheets::show` meets its contract: what `answer` wrote is within the space.
 use mathlib.Core.Path.{ap}
 use borrow.Author.Needs.{needs}
 use Rattle.io.proofs.Counting.{counts}

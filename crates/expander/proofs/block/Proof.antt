@@ -1,4 +1,4 @@
--- `expander::block` meets its contract, expander by expander. Assumes nothing.
+-- `expander::block` meets its contract, expander by expander.
 use mathlib.Core.Path.{ap, _∙_}
 use Rattle.aes.specs.Fips197.{cipher}
 use Rattle.expander.specs.Expander.{aesBlock}

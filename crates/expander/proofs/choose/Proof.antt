@@ -1,4 +1,4 @@
--- `expander::choose` meets its contract: its tests are those of the definition. Assumes nothing.
+-- `expander::choose` meets its contract: its tests are those of the definition.
 use borrow.Author.Tests.{eq-eqb, ne-eqb}
 use Rattle.expander.proofs.choose.Statement.{statement}
 use Rattle.expander.proofs.choose.Tie as tie

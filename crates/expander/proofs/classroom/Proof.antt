@@ -1,4 +1,4 @@
--- `expander::classroom` meets its contract. Assumes nothing.
+-- `expander::classroom` meets its contract.
 use mathlib.Core.Path.{_∙_}
 use Rattle.expander.proofs.Words.{classroom-words}
 use borrow.Author.Needs.{needs}

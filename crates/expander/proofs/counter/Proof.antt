@@ -1,4 +1,4 @@
--- `expander::counter` meets its contract. Assumes nothing.
+-- `expander::counter` meets its contract.
 use mathlib.Core.Path.{_∙_}
 use Rattle.expander.proofs.Words.{counted}
 use borrow.Author.Needs.{needs}

@@ -1,4 +1,4 @@
--- `expander::is_expander` meets its contract. Assumes nothing.
+-- `expander::is_expander` meets its contract.
 use borrow.Author.Tests.{eq-eqb, ne-eqb}
 use Rattle.expander.proofs.is_expander.Statement.{statement}
 use Rattle.expander.proofs.is_expander.Tie as tie

@@ -1,4 +1,4 @@
--- `expander::join` meets its contract. Assumes nothing.
+-- `expander::join` meets its contract.
 use mathlib.Core.Path.{ap, _∙_}
 use mathlib.Core.List.{List}
 use Prim.Native.Nat.{ℕ}

@@ -1,4 +1,4 @@
--- `expander::two_blocks` meets its contract, expander by expander. Assumes nothing.
+-- `expander::two_blocks` meets its contract, expander by expander.
 use mathlib.Core.Path.{ap, _∙_}
 use Rattle.aes.specs.Fips197.{cipher}
 use Rattle.expander.specs.Expander.{aesBlock}

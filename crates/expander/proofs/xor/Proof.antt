@@ -1,4 +1,4 @@
--- `expander::xor` meets its contract: byte by byte. Assumes nothing.
+-- `expander::xor` meets its contract: byte by byte.
 use Rattle.expander.proofs.Sums.{xorBytes-from}
 use borrow.Author.Needs.{needs}
 use Rattle.expander.proofs.xor.Statement.{statement}

@@ -1,4 +1,4 @@
--- `group::add` meets its contract: a sum has the remainder of the sum of the remainders. Assumes nothing.
+-- `group::add` meets its contract: a sum has the remainder of the sum of the remainders.
 use mathlib.Core.Path.{ap₂, sym, _∙_}
 use native.Mathlib.Nat.{add-mod}
 use Rattle.group.specs.Modular.{p, field}

@@ -1,4 +1,4 @@
--- `keymaker::control_byte` meets its contract. What stands below the two bits is less than their weight. Assumes nothing.
+-- `keymaker::control_byte` meets its contract. What stands below the two bits is less than their weight.
 use Prim.Native.Nat.{_+_, _*_, _%_, _<_}
 use native.Mathlib.Omega.{arith}
 use Rattle.keymaker.proofs.KeyControl.{byte-fits}

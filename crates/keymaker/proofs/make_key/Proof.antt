@@ -1,4 +1,4 @@
--- `keymaker::make_key` meets its contract. A refusal leaves the space as it was; else no cause applies, and the public share is written. Assumes nothing.
+-- `keymaker::make_key` meets its contract. A refusal leaves the space as it was; else no cause applies, and the public share is written.
 use mathlib.Core.Path.{refl, sym, ap, ap₂, _∙_}
 use mathlib.Core.Bool.{true≢false}
 use mathlib.Core.List.{List}

@@ -1,4 +1,4 @@
--- `keymaker::put_control` meets its contract. Assumes nothing.
+-- `keymaker::put_control` meets its contract.
 use mathlib.Core.Path.{ap}
 use Prim.Native.Nat.{ℕ, _/_}
 use lib.ListN.{set}

@@ -1,4 +1,4 @@
--- `keymaker::put_word` meets its contract. Assumes nothing.
+-- `keymaker::put_word` meets its contract.
 use mathlib.Core.Path.{_≡_, sym, ap, _∙_}
 use mathlib.Core.List.{List}
 use Prim.Native.Nat.{ℕ, _+_}

@@ -1,4 +1,4 @@
--- `keymaker::weight` meets its contract. Assumes nothing.
+-- `keymaker::weight` meets its contract.
 use Prim.Native.Nat.{_*_, _%_, _^_, _≤_}
 use native.Mathlib.Omega.{arith}
 use lib.Pow.{pow-pos, pow-mono}

@@ -1,4 +1,4 @@
--- `keymaker::write_key` meets its contract. The loop goes from level to level; the measure is the number of levels left. Assumes nothing.
+-- `keymaker::write_key` meets its contract. The loop goes from level to level; the measure is the number of levels left.
 use mathlib.Core.Path.{_≡_, ap, _∙_}
 use Prim.Native.Nat.{ℕ, _-_}
 use native.Mathlib.Omega.{arith}

@@ -1,4 +1,4 @@
--- `keymaker::wrong_lengths` meets its contract. Assumes nothing.
+-- `keymaker::wrong_lengths` meets its contract.
 use mathlib.Core.Path.{sym, _∙_}
 use borrow.Author.Tests.{eq-eqb, ne-eqb}
 use lib.ListN.{length}

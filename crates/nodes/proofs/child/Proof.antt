@@ -1,4 +1,4 @@
--- `nodes::child` meets its contract. Assumes nothing.
+-- `nodes::child` meets its contract.
 use mathlib.Core.Bool.{true, false}
 use Rattle.nodes.proofs.Nodes.{child-split}
 use borrow.Author.Needs.{needs}

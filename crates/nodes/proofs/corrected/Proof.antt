@@ -1,4 +1,4 @@
--- `nodes::corrected` meets its contract. Assumes nothing.
+-- `nodes::corrected` meets its contract.
 use Rattle.nodes.specs.NodeLayout.{nodeOf}
 use Rattle.nodes.proofs.Nodes.{left-alone, put-right}
 use borrow.Author.Needs.{needs}

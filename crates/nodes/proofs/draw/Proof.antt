@@ -1,4 +1,4 @@
--- `nodes::draw` meets its contract. Assumes nothing.
+-- `nodes::draw` meets its contract.
 use mathlib.Core.Path.{ap, _∙_}
 use Prim.Native.Nat.{ℕ, _%_}
 use Rattle.numbers.specs.Numbers.{fromLittle}

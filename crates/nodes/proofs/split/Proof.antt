@@ -1,4 +1,4 @@
--- `nodes::split` meets its contract. Assumes nothing.
+-- `nodes::split` meets its contract.
 use Rattle.nodes.proofs.Nodes.{cleared-set, control}
 use borrow.Author.Needs.{needs}
 use Rattle.nodes.proofs.split.Statement.{statement}

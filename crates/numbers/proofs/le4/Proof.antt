@@ -1,4 +1,4 @@
--- `numbers::le4` meets its contract. The four bytes are the window. Assumes nothing.
+-- `numbers::le4` meets its contract. The four bytes are the window.
 use borrow.Author.Needs.{needs}
 use native.Mathlib.Omega.{arith}
 use Rattle.numbers.specs.Numbers.{fromLittle}

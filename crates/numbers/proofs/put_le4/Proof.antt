@@ -1,4 +1,4 @@
--- `numbers::put_le4` meets its contract. The four stores are the bytes. Assumes nothing.
+-- `numbers::put_le4` meets its contract. The four stores are the bytes.
 use borrow.Author.Needs.{needs}
 use Prim.Native.Nat.{_/_, _%_}
 use native.Mathlib.Omega.{arith}

@@ -1,4 +1,4 @@
--- `numbers::read_be2` meets its contract. Outside there are zeros; within, the two bytes are the window. Assumes nothing.
+-- `numbers::read_be2` meets its contract. Outside there are zeros; within, the two bytes are the window.
 use borrow.Author.Needs.{needs}
 use Prim.Native.Nat.{_+_, _≤_}
 use native.Mathlib.Omega.{arith}

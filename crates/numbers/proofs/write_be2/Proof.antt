@@ -1,4 +1,4 @@
--- `numbers::write_be2` meets its contract. Outside nothing is written; within, the two stores are the bytes. Assumes nothing.
+-- `numbers::write_be2` meets its contract. Outside nothing is written; within, the two stores are the bytes.
 use borrow.Author.Needs.{needs}
 use Prim.Native.Nat.{_+_, _/_, _%_, _^_, _≤_}
 use native.Mathlib.Nat.{div-one}

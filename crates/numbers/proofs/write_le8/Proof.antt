@@ -1,4 +1,4 @@
--- `numbers::write_le8` meets its contract. Outside nothing is written; within, the two halves are the bytes. Assumes nothing.
+-- `numbers::write_le8` meets its contract. Outside nothing is written; within, the two halves are the bytes.
 use borrow.Author.Needs.{needs}
 use Prim.Native.Nat.{_+_, _≤_}
 use native.Mathlib.Omega.{arith}

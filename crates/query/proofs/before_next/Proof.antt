@@ -1,4 +1,4 @@
--- `query::before_next` meets its contract. What is lent on is w bytes long, twice. Assumes nothing.
+-- `query::before_next` meets its contract. What is lent on is w bytes long, twice.
 use borrow.Author.Needs.{needs}
 use native.Mathlib.Omega.{arith}
 use Prim.Native.Nat.{_+_, _-_}

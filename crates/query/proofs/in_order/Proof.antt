@@ -1,4 +1,4 @@
--- `query::in_order` meets its contract. The loop's invariant: what is left decides, lies within and has no spare bits. The measure is how many are left. Assumes nothing.
+-- `query::in_order` meets its contract. The loop's invariant: what is left decides, lies within and has no spare bits. The measure is how many are left.
 use Prim.Native.Nat.{_+_, _-_, _*_, _≤_, _<_}
 use native.Mathlib.Omega.{arith}
 use mathlib.Core.Path.{_≡_, refl, sym, _∙_}

@@ -1,4 +1,4 @@
--- `query::is_query` meets its contract. Each test that fails is one of the definition's, after those that pass. Assumes nothing.
+-- `query::is_query` meets its contract. Each test that fails is one of the definition's, after those that pass.
 use borrow.Author.Needs.{needs}
 use native.Mathlib.Omega.{arith}
 use Prim.Native.Nat.{_*_, _≤_}

@@ -1,4 +1,4 @@
--- `query::prefix_at` meets its contract. Part i lies within exactly when it is counted among the whole parts past the fields. Assumes nothing.
+-- `query::prefix_at` meets its contract. Part i lies within exactly when it is counted among the whole parts past the fields.
 use borrow.Author.Needs.{needs}
 use native.Mathlib.Omega.{arith}
 use Prim.Native.Nat.{_+_, _-_, _*_, _≤_}

@@ -1,4 +1,4 @@
--- `query::prefix_count` meets its contract. It is the second field. Assumes nothing.
+-- `query::prefix_count` meets its contract. It is the second field.
 use Rattle.query.proofs.prefix_count.Statement.{statement}
 use Rattle.query.proofs.prefix_count.Tie as tie
 

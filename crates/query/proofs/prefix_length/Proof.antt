@@ -1,4 +1,4 @@
--- `query::prefix_length` meets its contract. It is one more than the first field. Assumes nothing.
+-- `query::prefix_length` meets its contract. It is one more than the first field.
 use native.Mathlib.Omega.{arith}
 use Rattle.query.proofs.prefix_length.Statement.{statement}
 use Rattle.query.proofs.prefix_length.Tie as tie

@@ -1,4 +1,4 @@
--- `query::spare_zero_at` meets its contract. What is lent on is w bytes long. Assumes nothing.
+-- `query::spare_zero_at` meets its contract. What is lent on is w bytes long.
 use borrow.Author.Needs.{needs}
 use native.Mathlib.Omega.{arith}
 use Prim.Native.Nat.{_+_, _-_}

@@ -1,4 +1,4 @@
--- `query::spares_zero` meets its contract. The loop's invariant: what is left decides, and lies within. The measure is how many are left. Assumes nothing.
+-- `query::spares_zero` meets its contract. The loop's invariant: what is left decides, and lies within. The measure is how many are left.
 use Prim.Native.Nat.{_+_, _*_, _≤_}
 use native.Mathlib.Omega.{arith}
 use mathlib.Core.Path.{_≡_, refl, sym, _∙_}

@@ -1,4 +1,4 @@
--- `search::search` meets its contract: a cause of what is lent refuses it; where none applies the expander is known, and the levels decide. Assumes nothing.
+-- `search::search` meets its contract: a cause of what is lent refuses it; where none applies the expander is known, and the levels decide.
 use Prim.Native.Nat.{_-_}
 use native.Mathlib.Omega.{arith}
 use mathlib.Core.Path.{_≡_, sym, _∙_}

@@ -1,4 +1,4 @@
--- `shares::add_cause` meets its contract. At each return the tests that led there say which cause is the first. Assumes nothing.
+-- `shares::add_cause` meets its contract. At each return the tests that led there say which cause is the first.
 use mathlib.Core.Path.{_≡_, sym, _∙_}
 use mathlib.Core.Bool.{true, false, _&&_}
 use borrow.Author.Needs.{needs}

@@ -1,4 +1,4 @@
--- `shares::add_shares` meets its contract. A refusal leaves the space as it was; else no cause applies, and the sums are written. Assumes nothing.
+-- `shares::add_shares` meets its contract. A refusal leaves the space as it was; else no cause applies, and the sums are written.
 use Prim.Native.Nat.{ℕ}
 use mathlib.Core.Path.{refl, sym, ap, _∙_}
 use mathlib.Core.List.{List}

@@ -1,5 +1,4 @@
 -- `shares::all_below` meets its contract. The loop's invariant: what is left decides, and lies within. The measure is how many are left.
--- Assumes nothing.
 use Prim.Native.Nat.{_+_, _*_, _≤_}
 use native.Mathlib.Omega.{arith}
 use mathlib.Core.Path.{_≡_, refl, sym, _∙_}

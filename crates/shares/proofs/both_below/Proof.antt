@@ -1,4 +1,4 @@
--- `shares::both_below` meets its contract. Assumes nothing.
+-- `shares::both_below` meets its contract.
 use borrow.Author.Needs.{needs}
 use borrow.Author.Tests.{not-true, not-false}
 use Rattle.shares.proofs.both_below.Statement.{statement}

@@ -1,4 +1,4 @@
--- `shares::unmatched` meets its contract. Assumes nothing.
+-- `shares::unmatched` meets its contract.
 use borrow.Author.Tests.{eq-eqb, ne-eqb}
 use Rattle.shares.proofs.unmatched.Statement.{statement}
 use Rattle.shares.proofs.unmatched.Tie as tie

@@ -1,5 +1,5 @@
 -- `shares::write_sums` meets its contract. The loop's invariant: the sums passed are written, and what is left lies within. The measure is how many
--- are left. Assumes nothing.
+-- are left.
 use Prim.Native.Nat.{_+_, _*_, _≤_}
 use native.Mathlib.Omega.{arith}
 use borrow.Author.Needs.{needs}

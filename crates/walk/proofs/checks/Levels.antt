@@ -1,4 +1,4 @@
--- The levels that one reader has passed: the test of their payloads, the reader at a level, and the call that folds one payload in. Assumes nothing.
+-- The levels that one reader has passed: the test of their payloads, the reader at a level, and the call that folds one payload in.
 use mathlib.Core.Path.{_≡_, refl, ap, _∙_}
 use Prim.Native.Nat.{ℕ, suc, _<_, _^_}
 use native.Mathlib.Omega.{arith}

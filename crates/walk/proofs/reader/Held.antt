@@ -1,4 +1,4 @@
--- The reader of a public share in a walk by hand: its type and its laws at a function's lifetime, what it owns and that this may be owned twice. Assumes nothing.
+-- The reader of a public share in a walk by hand: its type and its laws at a function's lifetime, what it owns and that this may be owned twice.
 use mathlib.Core.Path.{_≡_, ap}
 use Prim.Native.Nat.{_<_, _^_}
 use mathlib.Core.List.{List, [], _∷_}

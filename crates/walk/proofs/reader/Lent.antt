@@ -1,4 +1,4 @@
--- The three functions over a reader of a public share, as a walk by hand calls them: their contracts and that they meet them, what a call is given and what it says. Assumes nothing.
+-- The three functions over a reader of a public share, as a walk by hand calls them: their contracts and that they meet them, what a call is given and what it says.
 use mathlib.Core.Path.{_≡_}
 use Prim.Native.Nat.{ℕ, _+_, _<_}
 use mathlib.Core.List.{List, [], _∷_}

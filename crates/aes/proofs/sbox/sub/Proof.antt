@@ -1,4 +1,4 @@
--- `aes::sbox::sub` meets its contract. It reads the entry of the lent table. Assumes nothing.
+-- `aes::sbox::sub` meets its contract. It reads the entry of the lent table.
 use mathlib.Core.Path.{ap, _∙_}
 use mathlib.Core.List.{List}
 use Prim.Native.Nat.{ℕ}

@@ -1,4 +1,4 @@
--- `aes::sbox::table` meets its contract. The table is the affine map at each inverse, which is computed. Assumes nothing.
+-- `aes::sbox::table` meets its contract. The table is the affine map at each inverse, which is computed.
 use Rattle.aes.proofs.Computes.{computes}
 use Rattle.gf256.proofs.Inverse.{inverses}
 use Rattle.aes.proofs.SBoxTable.{table-rule}

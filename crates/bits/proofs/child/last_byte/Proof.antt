@@ -1,4 +1,4 @@
--- `bits::child::last_byte` meets its contract. What is left of x past its first bits is taken off, and the bit is added. Assumes nothing.
+-- `bits::child::last_byte` meets its contract. What is left of x past its first bits is taken off, and the bit is added.
 use borrow.Author.Needs.{needs}
 use native.Mathlib.Omega.{arith}
 use Prim.Native.Nat.{_+_, _-_, _/_, _%_, _^_}

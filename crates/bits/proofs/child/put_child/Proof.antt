@@ -1,4 +1,4 @@
--- `bits::child::put_child` meets its contract. Outside nothing is written; within, the bytes are copied and the last one takes the place of byte `whole`. Assumes nothing.
+-- `bits::child::put_child` meets its contract. Outside nothing is written; within, the bytes are copied and the last one takes the place of byte `whole`.
 use borrow.Author.Needs.{needs}
 use native.Mathlib.Omega.{arith}
 use Prim.Native.Nat.{_+_, _≤_}

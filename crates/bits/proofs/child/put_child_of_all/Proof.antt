@@ -1,4 +1,4 @@
--- `bits::child::put_child_of_all` meets its contract. Outside nothing is written; within, the bytes are copied and one with the bit stands after them. Assumes nothing.
+-- `bits::child::put_child_of_all` meets its contract. Outside nothing is written; within, the bytes are copied and one with the bit stands after them.
 use borrow.Author.Needs.{needs}
 use native.Mathlib.Omega.{arith}
 use Prim.Native.Nat.{_+_, _≤_}

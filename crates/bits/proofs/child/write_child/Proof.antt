@@ -1,4 +1,4 @@
--- `bits::child::write_child` meets its contract. A prefix with fewer bits is taken whole; else its whole bytes and the rest are its bits. Assumes nothing.
+-- `bits::child::write_child` meets its contract. A prefix with fewer bits is taken whole; else its whole bytes and the rest are its bits.
 use borrow.Author.Needs.{needs}
 use native.Mathlib.Omega.{arith}
 use Prim.Native.Nat.{ℕ}

@@ -1,4 +1,4 @@
--- `combine::checks::first_cause` meets its contract. At each return the tests that led there say which cause is the first. Assumes nothing.
+-- `combine::checks::first_cause` meets its contract. At each return the tests that led there say which cause is the first.
 use mathlib.Core.Path.{_≡_, sym, _∙_}
 use mathlib.Core.Bool.{true, false, _&&_}
 use borrow.Author.Needs.{needs}

@@ -1,4 +1,4 @@
--- `combine::checks::wrong_shares` meets its contract. Assumes nothing.
+-- `combine::checks::wrong_shares` meets its contract.
 use borrow.Author.Needs.{needs}
 use mathlib.Core.Path.{sym, _∙_}
 use borrow.Author.Tests.{not-true, not-false}

@@ -1,5 +1,5 @@
 -- `combine::totals::count_kept` meets its contract. The loop's invariant: those counted and those left make up the whole. The measure is how many are
--- left. Assumes nothing.
+-- left.
 use Prim.Native.Nat.{_+_, _*_, _≤_, _<_}
 use native.Mathlib.Omega.{arith}
 use mathlib.Core.Path.{_≡_}

@@ -1,4 +1,4 @@
--- `combine::totals::is_kept` meets its contract. Assumes nothing.
+-- `combine::totals::is_kept` meets its contract.
 use mathlib.Core.Path.{_∙_}
 use borrow.Author.Needs.{needs}
 use Rattle.combine.proofs.totals.is_kept.Statement.{statement}

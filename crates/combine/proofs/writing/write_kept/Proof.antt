@@ -1,5 +1,5 @@
 -- `combine::writing::write_kept` meets its contract. The loop's invariant: what is due to the kept prefixes passed is written, and what is left lies
--- within. The measure is how many are left. Assumes nothing.
+-- within. The measure is how many are left.
 use Prim.Native.Nat.{ℕ, _+_, _-_, _*_, _≤_}
 use native.Mathlib.Omega.{arith}
 use mathlib.Core.Path.{_≡_}

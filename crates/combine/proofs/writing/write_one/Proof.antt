@@ -1,4 +1,4 @@
--- `combine::writing::write_one` meets its contract. Assumes nothing.
+-- `combine::writing::write_one` meets its contract.
 use Prim.Native.Nat.{_+_, _-_}
 use native.Mathlib.Omega.{arith}
 use mathlib.Core.Path.{_≡_}

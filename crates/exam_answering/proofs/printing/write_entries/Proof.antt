@@ -1,5 +1,5 @@
 -- `exam_answering::printing::write_entries` meets its contract. The loop's invariant: the lines of the prefixes passed are written, and what is left lies
--- within. The measure is how many are left. Assumes nothing.
+-- within. The measure is how many are left.
 use Prim.Native.Nat.{ℕ, _+_, _-_, _*_, _≤_}
 use native.Mathlib.Omega.{arith}
 use mathlib.Core.List.{List, _++_}

@@ -1,4 +1,4 @@
--- `exam_answering::printing::write_heavy` meets its contract. Assumes nothing.
+-- `exam_answering::printing::write_heavy` meets its contract.
 use Prim.Native.Nat.{_+_, _-_, _≤_}
 use native.Mathlib.Omega.{arith}
 use mathlib.Core.Path.{_≡_, _∙_}

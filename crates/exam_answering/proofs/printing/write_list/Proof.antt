@@ -1,5 +1,5 @@
 -- `exam_answering::printing::write_list` meets its contract. The loop's invariant: the lines of the strings passed are written, and what is left lies
--- within. The measure is how many are left. Assumes nothing.
+-- within. The measure is how many are left.
 use Prim.Native.Nat.{ℕ, _+_, _-_, _*_, _/_, _≤_}
 use native.Mathlib.Nat.{div-mul-le-self}
 use native.Mathlib.Omega.{arith}

@@ -1,5 +1,5 @@
 -- `exam_answering::printing::write_record` meets its contract. The loop's invariant: the lines of the rounds passed are written, and what is left are rounds.
--- The measure is how many rounds there may be yet. Assumes nothing.
+-- The measure is how many rounds there may be yet.
 use Prim.Native.Nat.{ℕ, _+_, _-_, _≤_}
 use native.Mathlib.Omega.{arith}
 use mathlib.Core.Path.{_≡_, refl, ap, _∙_}

@@ -1,4 +1,4 @@
--- `exam_answering::printing::write_round` meets its contract. Assumes nothing.
+-- `exam_answering::printing::write_round` meets its contract.
 use Prim.Native.Nat.{ℕ}
 use mathlib.Core.Path.{_≡_}
 use mathlib.Core.List.{List}

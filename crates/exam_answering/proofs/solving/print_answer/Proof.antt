@@ -1,4 +1,4 @@
--- `exam_answering::solving::print_answer` meets its contract: what is lent to the search are the sheet's own reports. Assumes nothing.
+-- `exam_answering::solving::print_answer` meets its contract: what is lent to the search are the sheet's own reports.
 use mathlib.Core.Path.{_≡_, refl, sym, ap, ap₂, subst, _∙_}
 use mathlib.Core.Bool.{true}
 use mathlib.Core.List.{List}

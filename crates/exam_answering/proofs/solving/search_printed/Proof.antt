@@ -1,4 +1,4 @@
--- `exam_answering::solving::search_printed` meets its contract: what is printed is what is read of the search. Assumes nothing.
+-- `exam_answering::solving::search_printed` meets its contract: what is printed is what is read of the search.
 use mathlib.Core.Path.{_≡_, sym, ap, ap₂, _∙_}
 use mathlib.Core.List.{List}
 use Prim.Native.Nat.{ℕ}

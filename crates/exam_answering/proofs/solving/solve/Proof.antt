@@ -1,4 +1,4 @@
--- `exam_answering::solving::solve` meets its contract: the answer is printed in space of its own, and copied where it fits. Assumes nothing.
+-- `exam_answering::solving::solve` meets its contract: the answer is printed in space of its own, and copied where it fits.
 use mathlib.Core.Path.{_≡_, refl, sym, ap, ap₂, _∙_}
 use mathlib.Core.List.{List}
 use Prim.Native.Nat.{ℕ, _≤_}

@@ -1,4 +1,4 @@
--- `exam_lines::answer_lines::bit_digit` meets its contract. Assumes nothing.
+-- `exam_lines::answer_lines::bit_digit` meets its contract.
 use Rattle.exam_lines.proofs.answer_lines.bit_digit.Statement.{statement}
 use Rattle.exam_lines.proofs.answer_lines.bit_digit.Tie as tie
 

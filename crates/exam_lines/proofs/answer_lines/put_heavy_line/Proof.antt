@@ -1,4 +1,4 @@
--- `exam_lines::answer_lines::put_heavy_line` meets its contract. Assumes nothing.
+-- `exam_lines::answer_lines::put_heavy_line` meets its contract.
 use Prim.Native.Nat.{ℕ, _+_}
 use native.Mathlib.Omega.{arith}
 use mathlib.Core.Path.{refl}

@@ -1,4 +1,4 @@
--- `exam_lines::answer_lines::put_prefix_line` meets its contract. Assumes nothing.
+-- `exam_lines::answer_lines::put_prefix_line` meets its contract.
 use Prim.Native.Nat.{ℕ}
 use native.Mathlib.Omega.{arith}
 use mathlib.Core.List.{List, [], _∷_}

@@ -1,5 +1,4 @@
 -- `exam_lines::answer_lines::write_bits` meets its contract. The loop's invariant: the bits passed are written. The measure is how many are left.
--- Assumes nothing.
 use Prim.Native.Nat.{ℕ, _+_, _-_, _≤_}
 use native.Mathlib.Omega.{arith}
 use mathlib.Core.Path.{_≡_, ap, _∙_}

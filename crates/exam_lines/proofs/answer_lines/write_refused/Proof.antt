@@ -1,4 +1,4 @@
--- `exam_lines::answer_lines::write_refused` meets its contract. Assumes nothing.
+-- `exam_lines::answer_lines::write_refused` meets its contract.
 use Prim.Native.Nat.{_+_, _≤_}
 use native.Mathlib.Omega.{arith}
 use mathlib.Core.Path.{refl, _∙_}

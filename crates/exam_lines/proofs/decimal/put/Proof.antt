@@ -1,4 +1,4 @@
--- `exam_lines::decimal::put` meets its contract. Assumes nothing.
+-- `exam_lines::decimal::put` meets its contract.
 use native.Mathlib.Omega.{arith}
 use mathlib.Core.Path.{refl}
 use mathlib.Core.List.{[]}

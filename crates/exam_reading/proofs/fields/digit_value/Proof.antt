@@ -1,4 +1,4 @@
--- `exam_reading::fields::digit_value` meets its contract. Assumes nothing.
+-- `exam_reading::fields::digit_value` meets its contract.
 use borrow.Author.Needs.{needs}
 use native.Mathlib.Omega.{arith}
 use mathlib.Core.Path.{refl}

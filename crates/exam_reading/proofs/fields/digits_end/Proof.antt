@@ -1,5 +1,5 @@
 -- `exam_reading::fields::digits_end` meets its contract. The loop's invariant: the digits end where those that are left do. The measure is what is left of
--- the text. Assumes nothing.
+-- the text.
 use Prim.Native.Nat.{suc, _+_, _-_, _≤_}
 use native.Mathlib.Numerals.{add-one}
 use native.Mathlib.Omega.{arith}

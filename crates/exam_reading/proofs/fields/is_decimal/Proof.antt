@@ -1,4 +1,4 @@
--- `exam_reading::fields::is_decimal` meets its contract. Assumes nothing.
+-- `exam_reading::fields::is_decimal` meets its contract.
 use borrow.Author.Tests.{le-leb, lt-leb}
 use Rattle.exam_reading.proofs.fields.is_decimal.Statement.{statement}
 use Rattle.exam_reading.proofs.fields.is_decimal.Tie as tie

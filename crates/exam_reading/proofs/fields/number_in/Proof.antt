@@ -1,5 +1,5 @@
 -- `exam_reading::fields::number_in` meets its contract. The loop's invariant: the digits that are left, after x, are the number, and x has as many digits as
--- are passed. The measure is how many are left. Assumes nothing.
+-- are passed. The measure is how many are left.
 use Prim.Native.Nat.{suc, _+_, _-_, _^_, _≤_, _<_}
 use native.Mathlib.Nat.{sub-self}
 use native.Mathlib.Numerals.{add-one}

@@ -1,4 +1,4 @@
--- `exam_reading::fields::read_field` meets its contract. Assumes nothing.
+-- `exam_reading::fields::read_field` meets its contract.
 use native.Mathlib.Omega.{arith}
 use Prim.Native.Nat.{_<_}
 use mathlib.Core.Path.{_≡_, sym, _∙_}

@@ -1,4 +1,4 @@
--- `exam_reading::first_line::read_end` meets its contract. Assumes nothing.
+-- `exam_reading::first_line::read_end` meets its contract.
 use borrow.Author.Needs.{needs}
 use native.Mathlib.Omega.{arith}
 use borrow.Author.Tests.{not-true, not-false}

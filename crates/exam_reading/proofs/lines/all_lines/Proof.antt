@@ -1,5 +1,5 @@
 -- `exam_reading::lines::all_lines` meets its contract. The loop's invariant: the lines that are left decide, and end where the text does. The measure is
--- how many are left. Assumes nothing.
+-- how many are left.
 use Prim.Native.Nat.{_+_, _*_, _≤_}
 use native.Mathlib.Omega.{arith}
 use mathlib.Core.Path.{_≡_, refl, sym, _∙_}

@@ -1,5 +1,5 @@
 -- `exam_reading::lines::are_bits` meets its contract. The loop's invariant: the characters that are left decide, and lie within. The measure is how many are
--- left. Assumes nothing.
+-- left.
 use Prim.Native.Nat.{_+_, _≤_}
 use native.Mathlib.Numerals.{add-one}
 use native.Mathlib.Omega.{arith}

@@ -1,4 +1,4 @@
--- `exam_reading::lines::are_lines` meets its contract. Assumes nothing.
+-- `exam_reading::lines::are_lines` meets its contract.
 use Prim.Native.Nat.{_+_, _*_, _≤_}
 use native.Mathlib.Nat.{mul-le-mul}
 use native.Mathlib.Omega.{arith}

@@ -1,4 +1,4 @@
--- `exam_reading::lines::has_line` meets its contract. Each test that fails is one of the definition's, after those that pass. Assumes nothing.
+-- `exam_reading::lines::has_line` meets its contract. Each test that fails is one of the definition's, after those that pass.
 use Prim.Native.Nat.{_+_}
 use native.Mathlib.Omega.{arith}
 use mathlib.Core.Path.{_∙_}

@@ -1,4 +1,4 @@
--- `exam_reading::lines::is_hex` meets its contract. Assumes nothing.
+-- `exam_reading::lines::is_hex` meets its contract.
 use borrow.Author.Needs.{needs}
 use mathlib.Core.Path.{sym, _∙_}
 use borrow.Author.Tests.{le-leb, lt-leb}

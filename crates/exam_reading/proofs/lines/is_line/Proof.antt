@@ -1,4 +1,4 @@
--- `exam_reading::lines::is_line` meets its contract. Each test that fails is one of the line's, after those that pass. Assumes nothing.
+-- `exam_reading::lines::is_line` meets its contract. Each test that fails is one of the line's, after those that pass.
 use Prim.Native.Nat.{_+_}
 use mathlib.Core.Path.{sym, _∙_}
 use borrow.Author.Needs.{needs}

@@ -1,4 +1,4 @@
--- `exam_reading::lines::seed_then` meets its contract. Assumes nothing.
+-- `exam_reading::lines::seed_then` meets its contract.
 use borrow.Author.Needs.{needs}
 use mathlib.Core.Path.{sym, _∙_}
 use borrow.Author.Tests.{not-true, not-false}

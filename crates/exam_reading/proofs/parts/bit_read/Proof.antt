@@ -1,4 +1,4 @@
--- `exam_reading::parts::bit_read` meets its contract. Assumes nothing.
+-- `exam_reading::parts::bit_read` meets its contract.
 use borrow.Author.Needs.{needs}
 use native.Mathlib.Omega.{arith}
 use Prim.Native.Nat.{_+_}

@@ -1,5 +1,5 @@
 -- `exam_reading::parts::byte_read` meets its contract. The loop's invariant: the bits read are the first ones of the byte. The measure is how many are
--- left. Assumes nothing.
+-- left.
 use Prim.Native.Nat.{suc, _+_, _-_, _*_, _^_, _<_}
 use native.Mathlib.Numerals.{add-one}
 use native.Mathlib.Omega.{arith}

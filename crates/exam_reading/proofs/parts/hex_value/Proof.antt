@@ -1,4 +1,4 @@
--- `exam_reading::parts::hex_value` meets its contract. Assumes nothing.
+-- `exam_reading::parts::hex_value` meets its contract.
 use Prim.Native.Nat.{_-_}
 use native.Mathlib.Omega.{arith}
 use mathlib.Core.Path.{_≡_}

@@ -1,5 +1,5 @@
 -- `exam_reading::parts::read_seed` meets its contract. The loop's invariant: the bytes read, and those that are left, are the seed. The measure is how many
--- are left. Assumes nothing.
+-- are left.
 use Prim.Native.Nat.{ℕ, _+_, _-_, _*_, _≤_}
 use native.Mathlib.Numerals.{add-one}
 use native.Mathlib.Omega.{arith}

@@ -1,4 +1,4 @@
--- `exam_reading::parts::read_string` meets its contract. Assumes nothing.
+-- `exam_reading::parts::read_string` meets its contract.
 use lib.ListN.{take, drop}
 use Rattle.exam_text.specs.Reader.{bitsRead}
 use Rattle.exam_text.proofs.Values.{four-bytes}

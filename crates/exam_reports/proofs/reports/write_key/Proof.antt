@@ -1,4 +1,4 @@
--- `exam_reports::reports::write_key` meets its contract: what the key maker writes into the part that it is lent is put at its place. Assumes nothing.
+-- `exam_reports::reports::write_key` meets its contract: what the key maker writes into the part that it is lent is put at its place.
 use Rattle.point.specs.PublicShare.{publicShareLength}
 use Rattle.calls.specs.Outcome.{Exit}
 use Rattle.keymaker.specs.Key.{keyOutcome}

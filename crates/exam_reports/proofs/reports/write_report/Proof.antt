@@ -1,4 +1,4 @@
--- `exam_reports::reports::write_report` meets its contract: the key of what was read is that of the line. Assumes nothing.
+-- `exam_reports::reports::write_report` meets its contract: the key of what was read is that of the line.
 use mathlib.Core.Path.{_≡_, sym, ap, ap₂, _∙_}
 use Prim.Native.Nat.{ℕ, _*_}
 use native.Mathlib.Omega.{arith}

@@ -1,5 +1,5 @@
 -- `exam_reports::reports::write_reports` meets its contract. The loop's invariant: the reports of the lines passed are written, and the next
--- line begins here. The measure is how many are left. Assumes nothing.
+-- line begins here. The measure is how many are left.
 use mathlib.Core.Path.{_≡_, ap, _∙_}
 use mathlib.Core.Bool.{true}
 use Prim.Native.Nat.{ℕ, suc, _+_, _*_, _≤_, _<_}

@@ -1,4 +1,4 @@
--- `idpf::shares::share` meets its contract: where no cause applies the expander is known, the query passes and the sums fit. Assumes nothing.
+-- `idpf::shares::share` meets its contract: where no cause applies the expander is known, the query passes and the sums fit.
 use Prim.Native.Nat.{ℕ, _*_}
 use native.Mathlib.Omega.{arith}
 use mathlib.Core.Path.{_≡_, refl, sym, ap, _∙_}

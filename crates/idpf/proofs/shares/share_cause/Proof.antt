@@ -1,4 +1,4 @@
--- `idpf::shares::share_cause` meets its contract. At each return the tests that led there say which cause is the first. Assumes nothing.
+-- `idpf::shares::share_cause` meets its contract. At each return the tests that led there say which cause is the first.
 use Prim.Native.Nat.{_/_}
 use native.Mathlib.Omega.{arith}
 use mathlib.Core.Path.{_≡_, sym, _∙_}

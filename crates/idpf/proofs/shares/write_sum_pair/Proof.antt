@@ -1,4 +1,4 @@
--- `idpf::shares::write_sum_pair` meets its contract. Assumes nothing.
+-- `idpf::shares::write_sum_pair` meets its contract.
 use mathlib.Core.Path.{_∙_}
 use borrow.Author.Needs.{needs}
 use Rattle.idpf.proofs.shares.write_sum_pair.Statement.{statement}

@@ -1,6 +1,5 @@
 -- `idpf::shares::write_sums` meets its contract. The loop's invariant: the sums at the prefixes passed are written, and the rest is as it was. The last
 -- prefix of an odd count is left to the end.
--- Assumes nothing.
 use Prim.Native.Nat.{_+_, _*_, _-_, _≤_}
 use mathlib.Core.Path.{ap, _∙_}
 use lib.ListN.{length}

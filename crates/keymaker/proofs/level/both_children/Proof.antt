@@ -1,4 +1,4 @@
--- `keymaker::level::both_children` meets its contract. Each child is split from its block. Assumes nothing.
+-- `keymaker::level::both_children` meets its contract. Each child is split from its block.
 use mathlib.Core.Bool.{true, false}
 use Rattle.nodes.proofs.Nodes.{child-split}
 use borrow.Author.Needs.{needs}

@@ -1,4 +1,4 @@
--- `keymaker::level::finish` meets its contract. Assumes nothing.
+-- `keymaker::level::finish` meets its contract.
 use mathlib.Core.Path.{refl, ap, _∙_}
 use mathlib.Core.List.{List}
 use lib.ListN.{take}

@@ -1,4 +1,4 @@
--- `keymaker::level::keep` meets its contract. Assumes nothing.
+-- `keymaker::level::keep` meets its contract.
 use borrow.Author.Needs.{needs}
 use Rattle.keymaker.proofs.level.keep.Statement.{statement}
 use Rattle.keymaker.proofs.level.keep.Tie as tie

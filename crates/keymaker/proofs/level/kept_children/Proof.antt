@@ -1,4 +1,4 @@
--- `keymaker::level::kept_children` meets its contract. Assumes nothing.
+-- `keymaker::level::kept_children` meets its contract.
 use mathlib.Core.Path.{ap₂, _∙_}
 use Rattle.expander.specs.Expander.{xorBytes}
 use Rattle.point.specs.Instance.{scheme}

@@ -1,4 +1,4 @@
--- `keymaker::level::next_level` meets its contract. Assumes nothing.
+-- `keymaker::level::next_level` meets its contract.
 use mathlib.Core.Path.{ap, _∙_}
 use Rattle.point.specs.Node as point
 use Rattle.point.specs.Node.{final, payloadOf}

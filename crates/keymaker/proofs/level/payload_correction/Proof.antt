@@ -1,4 +1,4 @@
--- `keymaker::level::payload_correction` meets its contract. Assumes nothing.
+-- `keymaker::level::payload_correction` meets its contract.
 use mathlib.Core.Path.{ap, _∙_}
 use Prim.Native.Nat.{ℕ}
 use Rattle.group.specs.Modular.{field}

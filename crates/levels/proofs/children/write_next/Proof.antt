@@ -1,4 +1,4 @@
--- `levels::children::write_next` meets its contract: the heading, and after it the children. Assumes nothing.
+-- `levels::children::write_next` meets its contract: the heading, and after it the children.
 use native.Mathlib.Omega.{arith}
 use borrow.Author.Needs.{needs}
 use Rattle.kept.specs.Kept.{reachesBy}

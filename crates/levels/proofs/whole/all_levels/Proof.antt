@@ -1,4 +1,4 @@
--- `levels::whole::all_levels` meets its contract. Assumes nothing.
+-- `levels::whole::all_levels` meets its contract.
 use Prim.Native.Nat.{ℕ}
 use borrow.Author.Needs.{needs}
 use Rattle.bits.specs.Strings.{Bits}

@@ -1,4 +1,4 @@
--- `query::writing::child_length` meets its contract. Assumes nothing.
+-- `query::writing::child_length` meets its contract.
 use borrow.Author.Needs.{needs}
 use Rattle.bits.proofs.Longer.{all-child-size, child-size}
 use Rattle.query.proofs.writing.child_length.Statement.{statement}

@@ -1,4 +1,4 @@
--- `query::writing::write_both_children` meets its contract. The second child follows the first. Assumes nothing.
+-- `query::writing::write_both_children` meets its contract. The second child follows the first.
 use Prim.Native.Nat.{_+_, _≤_, _<_}
 use native.Mathlib.Omega.{arith}
 use mathlib.Core.Path.{_≡_}

@@ -1,4 +1,4 @@
--- `query::writing::write_fields` meets its contract. Outside nothing is written; within, the two fields stand one after the other. Assumes nothing.
+-- `query::writing::write_fields` meets its contract. Outside nothing is written; within, the two fields stand one after the other.
 use borrow.Author.Needs.{needs}
 use native.Mathlib.Omega.{arith}
 use Prim.Native.Nat.{ℕ, _+_, _≤_}

@@ -1,4 +1,4 @@
--- `report_sums::checks::all_pass` meets its contract. The loop's invariant: the public shares passed pass the test. Assumes nothing.
+-- `report_sums::checks::all_pass` meets its contract. The loop's invariant: the public shares passed pass the test.
 use Prim.Native.Nat.{ℕ, _+_, _-_, _*_, _≤_}
 use native.Mathlib.Omega.{arith}
 use mathlib.Core.Path.{_≡_, sym, ap, _∙_}

@@ -1,4 +1,4 @@
--- `report_sums::checks::all_spare_bits_zero` meets its contract. Assumes nothing.
+-- `report_sums::checks::all_spare_bits_zero` meets its contract.
 use mathlib.Core.Path.{_∙_}
 use borrow.Author.Needs.{needs}
 use Rattle.report_sums.proofs.ReportChecks.{not-failed}

@@ -1,4 +1,4 @@
--- `report_sums::checks::passes_at` meets its contract. What is lent on is one public share. Assumes nothing.
+-- `report_sums::checks::passes_at` meets its contract. What is lent on is one public share.
 use Prim.Native.Nat.{_+_, _-_}
 use native.Mathlib.Omega.{arith}
 use mathlib.Core.Path.{_≡_, _∙_}

@@ -1,4 +1,4 @@
--- `report_sums::checks::wrong_lengths` meets its contract. Assumes nothing.
+-- `report_sums::checks::wrong_lengths` meets its contract.
 use Rattle.report_sums.proofs.ReportChecks.{odd-seeds, some-shares, some-seeds, odd-shares, counts}
 use borrow.Author.Needs.{needs}
 use Rattle.report_sums.proofs.checks.wrong_lengths.Statement.{statement}

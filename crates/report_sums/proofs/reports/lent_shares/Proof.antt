@@ -1,4 +1,4 @@
--- `report_sums::reports::lent_shares` meets its contract. A report that is lent lies within. Assumes nothing.
+-- `report_sums::reports::lent_shares` meets its contract. A report that is lent lies within.
 use Prim.Native.Nat.{_+_, _*_, _≤_}
 use native.Mathlib.Omega.{arith}
 use denote.Ref.{now}

@@ -1,4 +1,4 @@
--- `report_sums::reports::report_count` meets its contract. Assumes nothing.
+-- `report_sums::reports::report_count` meets its contract.
 use Rattle.report_sums.proofs.Lent.{count-none, count-seeds, count-shares}
 use borrow.Author.Needs.{needs}
 use Rattle.report_sums.proofs.reports.report_count.Statement.{statement}

@@ -1,4 +1,4 @@
--- `report_sums::reports::server_sum` meets its contract: it is the first of two sums at one prefix. Assumes nothing.
+-- `report_sums::reports::server_sum` meets its contract: it is the first of two sums at one prefix.
 use borrow.Author.Needs.{needs}
 use Rattle.report_sums.proofs.reports.server_sum.Statement.{statement}
 use Rattle.report_sums.proofs.reports.server_sum.Tie as tie

@@ -1,5 +1,5 @@
 -- `report_sums::reports::server_sums` meets its contract. The loop's invariant: the sums over the first i reports, and i and what is left make the count. The
--- measure is what is left. Assumes nothing.
+-- measure is what is left.
 use mathlib.Core.Path.{_≡_, ap, _∙_}
 use mathlib.Core.List.{List}
 use Prim.Native.Nat.{ℕ, _+_}

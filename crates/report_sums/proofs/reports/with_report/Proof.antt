@@ -1,4 +1,4 @@
--- `report_sums::reports::with_report` meets its contract. Assumes nothing.
+-- `report_sums::reports::with_report` meets its contract.
 use mathlib.Core.Path.{_≡_, sym, ap, _∙_}
 use mathlib.Core.Bool.{true, false}
 use borrow.Author.Needs.{needs}

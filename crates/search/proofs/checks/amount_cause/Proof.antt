@@ -1,4 +1,4 @@
--- `search::checks::amount_cause` meets its contract. Each test is that of its cause, and the one before it has failed. Assumes nothing.
+-- `search::checks::amount_cause` meets its contract. Each test is that of its cause, and the one before it has failed.
 use mathlib.Core.Path.{sym, _∙_}
 use borrow.Author.Needs.{needs}
 use Rattle.search.proofs.checks.amount_cause.Statement.{statement}

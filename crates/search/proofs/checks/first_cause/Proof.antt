@@ -1,4 +1,4 @@
--- `search::checks::first_cause` meets its contract. The number is that of the first group of causes of which one applies. Assumes nothing.
+-- `search::checks::first_cause` meets its contract. The number is that of the first group of causes of which one applies.
 use native.Mathlib.Omega.{arith}
 use mathlib.Core.Path.{sym, _∙_}
 use mathlib.Core.List.{List, _++_}

@@ -1,4 +1,4 @@
--- `search::checks::lengths_wrong` meets its contract. Assumes nothing.
+-- `search::checks::lengths_wrong` meets its contract.
 use mathlib.Core.Path.{sym, _∙_}
 use borrow.Author.Needs.{needs}
 use Rattle.search.proofs.checks.lengths_wrong.Statement.{statement}

@@ -1,4 +1,4 @@
--- `search::checks::payload_too_large` meets its contract. Assumes nothing.
+-- `search::checks::payload_too_large` meets its contract.
 use borrow.Author.Needs.{needs}
 use Rattle.report_sums.specs.Checks.{payloadTooLarge}
 use Rattle.search.proofs.Judging.{first-applies, second-tells}

@@ -1,4 +1,4 @@
--- `search::checks::same_bytes` meets its contract. The loop's invariant: what is left decides. The measure is what is left. Assumes nothing.
+-- `search::checks::same_bytes` meets its contract. The loop's invariant: what is left decides. The measure is what is left.
 use Prim.Native.Nat.{_-_, _≤_}
 use native.Mathlib.Omega.{arith}
 use mathlib.Core.Path.{_≡_, refl, sym, _∙_}

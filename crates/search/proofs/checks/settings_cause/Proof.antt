@@ -1,4 +1,4 @@
--- `search::checks::settings_cause` meets its contract. Each test is that of its cause, and those before it have failed. Assumes nothing.
+-- `search::checks::settings_cause` meets its contract. Each test is that of its cause, and those before it have failed.
 use mathlib.Core.Path.{_≡_, sym, _∙_}
 use mathlib.Core.Bool.{false}
 use borrow.Author.Needs.{needs}

@@ -1,4 +1,4 @@
--- `search::checks::spare_bits_set` meets its contract. Assumes nothing.
+-- `search::checks::spare_bits_set` meets its contract.
 use borrow.Author.Needs.{needs}
 use Rattle.report_sums.specs.Checks.{spareBitsSet}
 use Rattle.search.proofs.Judging.{first-applies, second-tells}

@@ -1,4 +1,4 @@
--- `vectors::keys::hex` meets its contract: the loop ends, and reads within the slice. Assumes nothing.
+-- `vectors::keys::hex` meets its contract: the loop ends, and reads within the slice.
 use Prim.Native.Nat.{_≤_, _-_}
 use lib.ListN.{length}
 use borrow.Author.Needs.{needs}

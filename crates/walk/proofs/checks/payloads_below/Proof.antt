@@ -1,6 +1,6 @@
 -- `walk::checks::payloads_below` meets its contract, by a walk of its MIR with a loop in it. One reader is made before the loop; each turn reads a level's word by it, folds the test of
 -- its payload in and hands the reader on. After i turns the reader holds the lent slice, all levels and the next level i, and the bool is the test of the first i levels.
--- Of the four callees only their contracts are known. Assumes nothing.
+-- Of the four callees only their contracts are known.
 use mathlib.Core.Path.{_≡_, refl, ap, _∙_}
 use Prim.Native.Nat.{ℕ, suc, _+_, _<_, _^_}
 use native.Mathlib.Numerals.{add-one}

@@ -1,4 +1,4 @@
--- `walk::checks::spare_bits_zero` meets its contract. Assumes nothing.
+-- `walk::checks::spare_bits_zero` meets its contract.
 use mathlib.Core.Path.{sym}
 use Rattle.walk.proofs.PublicTests.{spare-full, spare-last}
 use borrow.Author.Needs.{needs}

@@ -1,4 +1,4 @@
--- `walk::checks::still_below` meets its contract. Assumes nothing.
+-- `walk::checks::still_below` meets its contract.
 use mathlib.Core.Path.{sym, ap}
 use mathlib.Core.Bool.{Bool, _&&_}
 use lib.Dec.{ltb}

@@ -1,4 +1,4 @@
--- `walk::pairs::node_at` meets its contract. The measure is the number of bits. Assumes nothing.
+-- `walk::pairs::node_at` meets its contract. The measure is the number of bits.
 use native.Mathlib.Omega.{arith}
 use Rattle.point.specs.PublicShare.{readCorrection}
 use Rattle.bits.specs.Packing.{bitsOf}

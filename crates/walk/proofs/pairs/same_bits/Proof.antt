@@ -1,4 +1,4 @@
--- `walk::pairs::same_bits` meets its contract. The loop's invariant: the first k bits agree from place `from` on, which is the measure. Assumes nothing.
+-- `walk::pairs::same_bits` meets its contract. The loop's invariant: the first k bits agree from place `from` on, which is the measure.
 use mathlib.Core.Path.{_≡_}
 use Prim.Native.Nat.{ℕ, _≤_}
 use native.Mathlib.Omega.{arith}

@@ -1,4 +1,4 @@
--- `walk::pairs::second_node` meets its contract. A node depends on the bits above it alone. Assumes nothing.
+-- `walk::pairs::second_node` meets its contract. A node depends on the bits above it alone.
 use mathlib.Core.Path.{refl, _∙_}
 use borrow.Author.Needs.{needs}
 use Rattle.point.specs.Instance.{scheme}

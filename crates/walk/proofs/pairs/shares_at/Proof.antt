@@ -1,4 +1,4 @@
--- `walk::pairs::shares_at` meets its contract. Assumes nothing.
+-- `walk::pairs::shares_at` meets its contract.
 use native.Mathlib.Omega.{arith}
 use borrow.Author.Needs.{needs}
 use Rattle.bits.specs.Packing.{bitsOf}

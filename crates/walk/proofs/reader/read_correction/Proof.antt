@@ -1,4 +1,4 @@
--- `walk::reader::read_correction` meets its contract. Assumes nothing.
+-- `walk::reader::read_correction` meets its contract.
 use mathlib.Core.Path.{ap, _∙_}
 use Prim.Native.Nat.{ℕ, _+_, _*_, _%_}
 use Rattle.numbers.specs.Numbers.{fromLittle}

@@ -1,6 +1,6 @@
 -- `walk::reader::read_level` meets its contract, by a walk of its MIR: a reader is made at level k, the level's word is read by it, and it is handed on. Of the
 -- three functions over the reader only their contracts are known. A reader may be owned twice, so each of the two that are lent it has its own.
--- In a local of a body the lifetime of the reader's type is erased; what the reader owns does not name it. Assumes nothing.
+-- In a local of a body the lifetime of the reader's type is erased; what the reader owns does not name it.
 use mathlib.Core.Path.{_≡_, refl, sym, ap, _∙_, subst}
 use Prim.Native.Nat.{ℕ, _+_, _<_, _^_}
 use mathlib.Core.List.{List, [], _∷_}

@@ -1,4 +1,4 @@
--- `walk::steps::corrected_child` meets its contract. Assumes nothing.
+-- `walk::steps::corrected_child` meets its contract.
 use mathlib.Core.Path.{ap₂, _∙_}
 use Rattle.point.specs.Correction.{corrected, correctedChild}
 use borrow.Author.Needs.{needs}

@@ -1,4 +1,4 @@
--- `walk::steps::corrected_payload` meets its contract. Assumes nothing.
+-- `walk::steps::corrected_payload` meets its contract.
 use mathlib.Core.Path.{_≡_, ap, _∙_}
 use mathlib.Core.List.{List}
 use Prim.Native.Nat.{ℕ, _%_}

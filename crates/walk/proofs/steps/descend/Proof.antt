@@ -1,4 +1,4 @@
--- `walk::steps::descend` meets its contract. Assumes nothing.
+-- `walk::steps::descend` meets its contract.
 use Rattle.nodes.specs.NodeLayout.{nodeOf, correctionOf}
 use Rattle.walk.proofs.Descent.{descend-block}
 use borrow.Author.Needs.{needs}

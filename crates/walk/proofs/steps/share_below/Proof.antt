@@ -1,4 +1,4 @@
--- `walk::steps::share_below` meets its contract. Assumes nothing.
+-- `walk::steps::share_below` meets its contract.
 use Rattle.nodes.specs.NodeLayout.{nodeOf, correctionOf}
 use Rattle.walk.proofs.Descent.{below-negated, below-plain}
 use borrow.Author.Needs.{needs}

@@ -1,4 +1,4 @@
--- `aes::state::State::add_round_key` meets its contract. It adds word by word. Assumes nothing.
+-- `aes::state::State::add_round_key` meets its contract. It adds word by word.
 use Rattle.gf256.proofs.Lists.{join4}
 use borrow.Author.Needs.{needs}
 use Rattle.aes.proofs.state.State.add_round_key.Statement.{statement}

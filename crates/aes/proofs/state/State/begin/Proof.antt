@@ -1,4 +1,4 @@
--- `aes::state::State::begin` meets its contract. It is the first AddRoundKey. Assumes nothing.
+-- `aes::state::State::begin` meets its contract. It is the first AddRoundKey.
 use mathlib.Core.Path.{_∙_, ap}
 use mathlib.Core.List.{List}
 use Prim.Native.Nat.{ℕ}

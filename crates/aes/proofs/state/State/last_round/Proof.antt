@@ -1,4 +1,4 @@
--- `aes::state::State::last_round` meets its contract. It is its three steps. Assumes nothing.
+-- `aes::state::State::last_round` meets its contract. It is its three steps.
 use mathlib.Core.Path.{_∙_, ap}
 use mathlib.Core.List.{List}
 use Prim.Native.Nat.{ℕ}

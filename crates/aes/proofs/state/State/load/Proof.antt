@@ -1,4 +1,4 @@
--- `aes::state::State::load` meets its contract. A list of 16 bytes is what stands at its places. Assumes nothing.
+-- `aes::state::State::load` meets its contract. A list of 16 bytes is what stands at its places.
 use mathlib.Core.Path.{_∙_}
 use Rattle.gf256.proofs.Lists.{join4, tabulate-getD}
 use borrow.Author.Needs.{needs}

@@ -1,4 +1,4 @@
--- `aes::state::State::mix_columns` meets its contract. It goes column by column. Assumes nothing.
+-- `aes::state::State::mix_columns` meets its contract. It goes column by column.
 use Rattle.gf256.proofs.Lists.{join4}
 use borrow.Author.Needs.{needs}
 use Rattle.aes.proofs.state.State.mix_columns.Statement.{statement}

@@ -1,4 +1,4 @@
--- `aes::state::State::next_round_key` meets its contract. It makes one word after the other. Assumes nothing.
+-- `aes::state::State::next_round_key` meets its contract. It makes one word after the other.
 use mathlib.Core.Path.{_∙_, ap, ap₂}
 use Rattle.aes.specs.Fips197.{sumWord, subWord}
 use Rattle.aes.specs.StateLayout.{wordOf}

@@ -1,4 +1,4 @@
--- `aes::state::State::round` meets its contract. It is its four steps. Assumes nothing.
+-- `aes::state::State::round` meets its contract. It is its four steps.
 use mathlib.Core.Path.{_∙_, ap}
 use mathlib.Core.List.{List}
 use Prim.Native.Nat.{ℕ}

@@ -1,4 +1,4 @@
--- `aes::state::State::shift_rows` meets its contract. Each column is a diagonal. Assumes nothing.
+-- `aes::state::State::shift_rows` meets its contract. Each column is a diagonal.
 use Rattle.gf256.proofs.Lists.{join4}
 use borrow.Author.Needs.{needs}
 use Rattle.aes.proofs.state.State.shift_rows.Statement.{statement}

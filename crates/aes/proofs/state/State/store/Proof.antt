@@ -1,4 +1,4 @@
--- `aes::state::State::store` meets its contract. It goes word by word. Assumes nothing.
+-- `aes::state::State::store` meets its contract. It goes word by word.
 use mathlib.Core.Path.{ap}
 use mathlib.Core.List.{List, [], _∷_}
 use Prim.Native.Nat.{ℕ}

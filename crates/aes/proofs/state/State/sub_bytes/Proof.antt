@@ -1,4 +1,4 @@
--- `aes::state::State::sub_bytes` meets its contract. It goes word by word. Assumes nothing.
+-- `aes::state::State::sub_bytes` meets its contract. It goes word by word.
 use Rattle.gf256.proofs.Lists.{join4}
 use borrow.Author.Needs.{needs}
 use Rattle.aes.proofs.state.State.sub_bytes.Statement.{statement}

@@ -1,4 +1,4 @@
--- `aes::word::Word::diagonal` meets its contract. It packs one byte of each word. Assumes nothing.
+-- `aes::word::Word::diagonal` meets its contract. It packs one byte of each word.
 use mathlib.Core.Path.{ap, _∙_}
 use mathlib.Core.List.{List}
 use Prim.Native.Nat.{ℕ}

@@ -1,4 +1,4 @@
--- `aes::word::Word::doubled` meets its contract. No byte's bits reach the next. Assumes nothing.
+-- `aes::word::Word::doubled` meets its contract. No byte's bits reach the next.
 use Prim.Native.Nat.{_/_}
 use native.Mathlib.Omega.{arith}
 use lib.Bits.{and-le-r}

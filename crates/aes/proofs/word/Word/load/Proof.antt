@@ -1,4 +1,4 @@
--- `aes::word::Word::load` meets its contract. It packs the bytes that stand at the four places. Assumes nothing.
+-- `aes::word::Word::load` meets its contract. It packs the bytes that stand at the four places.
 use mathlib.Core.Path.{_∙_}
 use Rattle.gf256.proofs.Lists.{cons4, tabulate-getD}
 use Rattle.aes.proofs.Words.{packed}

@@ -1,4 +1,4 @@
--- `aes::word::Word::mix_column` meets its contract. Each byte is made of two doublings. Assumes nothing.
+-- `aes::word::Word::mix_column` meets its contract. Each byte is made of two doublings.
 use mathlib.Core.Path.{_∙_, ap, ap₂}
 use mathlib.Core.List.{List}
 use Prim.Native.Nat.{ℕ}

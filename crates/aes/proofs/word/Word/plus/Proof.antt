@@ -1,4 +1,4 @@
--- `aes::word::Word::plus` meets its contract. The sum is taken byte by byte. Assumes nothing.
+-- `aes::word::Word::plus` meets its contract. The sum is taken byte by byte.
 use Rattle.aes.proofs.Words.{summed}
 use Rattle.aes.proofs.word.Word.plus.Statement.{statement}
 use Rattle.aes.proofs.word.Word.plus.Tie as tie

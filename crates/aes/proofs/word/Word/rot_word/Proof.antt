@@ -1,4 +1,4 @@
--- `aes::word::Word::rot_word` meets its contract. The lowest byte becomes the highest. Assumes nothing.
+-- `aes::word::Word::rot_word` meets its contract. The lowest byte becomes the highest.
 use Rattle.aes.proofs.Words.{rotated}
 use borrow.Author.Needs.{needs}
 use Rattle.aes.proofs.word.Word.rot_word.Statement.{statement}

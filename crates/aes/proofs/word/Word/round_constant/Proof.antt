@@ -1,4 +1,4 @@
--- `aes::word::Word::round_constant` meets its contract. The ten constants are computed. Assumes nothing.
+-- `aes::word::Word::round_constant` meets its contract. The ten constants are computed.
 use mathlib.Core.Path.{ap, _∙_}
 use mathlib.Core.List.{List, [], _∷_}
 use mathlib.Core.Bool.{Bool}

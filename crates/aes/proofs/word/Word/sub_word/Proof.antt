@@ -1,4 +1,4 @@
--- `aes::word::Word::sub_word` meets its contract. It goes byte by byte. Assumes nothing.
+-- `aes::word::Word::sub_word` meets its contract. It goes byte by byte.
 use mathlib.Core.Path.{ap, _∙_}
 use mathlib.Core.List.{List}
 use Prim.Native.Nat.{ℕ}

@@ -1,5 +1,5 @@
 -- `walk::reader::ShareReader::advanced` meets its contract, by a walk of its MIR: a reader is made anew of the slice and the number of levels that the old one
--- holds, and its next level and 1. A reader may be owned twice: one is kept for the exit, the other gives what the result owns. Assumes nothing.
+-- holds, and its next level and 1. A reader may be owned twice: one is kept for the exit, the other gives what the result owns.
 use mathlib.Core.Path.{refl}
 use Prim.Native.Nat.{ℕ, _+_, _<_, _^_}
 use mathlib.Core.List.{[], _∷_}

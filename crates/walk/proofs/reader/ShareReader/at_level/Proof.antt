@@ -1,5 +1,5 @@
 -- `walk::reader::ShareReader::at_level` meets its contract, by a walk of its MIR: a reader is made of the slice and the two numbers, in the result's local.
--- A shared slice may be owned twice: once for the parameter at exit, once inside the reader. Assumes nothing.
+-- A shared slice may be owned twice: once for the parameter at exit, once inside the reader.
 use mathlib.Core.Path.{refl}
 use Prim.Native.Nat.{ℕ, _<_, _^_}
 use mathlib.Core.List.{List, [], _∷_}

@@ -1,6 +1,6 @@
 -- `walk::reader::ShareReader::correction` meets its contract, by a walk of its MIR: the reader is taken apart, and `read_correction` is called on its slice and
 -- its two numbers, of which only the contract is known. A reader may be owned twice: one is kept for the exit, and what the other's fields own is what the
--- callee asks, with the lifetime's token, which comes back. Assumes nothing.
+-- callee asks, with the lifetime's token, which comes back.
 use mathlib.Core.Path.{_≡_, refl}
 use mathlib.Core.List.{[], _∷_}
 use lib.Dec.{T as Holds}
