@@ -6,7 +6,7 @@ pub const NAME: &str = "the second program itself";
 pub const NAME: &str = "the library libcapi.a";
 
 #[cfg(not(feature = "library"))]
-pub use second::{block, combine, exam_into as exam, key, search, share};
+pub use second::{add_shares as add, block, combine, exam_into as exam, key, search, share};
 
 /// The library's calls, each for a feature, with the second program's replies.
 #[cfg(feature = "library")]
@@ -28,6 +28,7 @@ calls! {
     "block" block(expander: u64, seed: &[u8], j: u64, block: &mut [u8]) -> Reply { number, length }
     "keys" key(n: u64, expander: u64, string: &[u8], seed0: &[u8], seed1: &[u8], out: &mut [u8]) -> Reply { number, length }
     "keys" share(n: u64, expander: u64, server: bool, seeds: &[u8], public: &[u8], query: &[u8], out: &mut [u8]) -> Reply { number, length }
+    "keys" add(share0: &[u8], share1: &[u8], out: &mut [u8]) -> Reply { number, length }
     "combine" combine(n: u64, t: u64, query: &[u8], share0: &[u8], share1: &[u8], out: &mut [u8]) -> Combined { number, kind, length }
     "search" search(n: u64, t: u64, expander: u64, seeds0: &[u8], public0: &[u8], seeds1: &[u8], public1: &[u8], record: &mut [u8],
         list: &mut [u8]) -> Found { number, record_length, list_length }

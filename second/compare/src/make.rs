@@ -1,6 +1,6 @@
 //! Makers of inputs: honest, damaged and hostile.
 
-use second::field::{read, reduce, P};
+use second::field::{add, negate, read, reduce, P};
 use second::keys::{head_size, public_share_size};
 use second::query::{pack, packed_size};
 use second::rng::Rng;
@@ -187,6 +187,27 @@ pub fn set_payload(rng: &mut Rng, public: &mut [u8], n: usize, payload: u64) {
 /// A group number that is p or more.
 pub fn too_large(rng: &mut Rng) -> u64 {
     rng.pick(&[P, P, P + 1, u64::MAX])
+}
+
+/// Writes one number of a share, one too large where none is given.
+pub fn set_number(rng: &mut Rng, share: &mut [u8], number: Option<u64>) {
+    let number = number.unwrap_or_else(|| too_large(rng));
+    if share.len() >= 8 {
+        let at = 8 * rng.below(share.len() / 8);
+        share[at..at + 8].copy_from_slice(&number.to_le_bytes());
+    }
+}
+
+/// Two shares with these totals.
+pub fn split(rng: &mut Rng, totals: &[u64]) -> [Vec<u8>; 2] {
+    let mut shares = [Vec::new(), Vec::new()];
+    for &total in totals {
+        let any = reduce(rng.number());
+        let part = rng.pick(&[0, 1, P - 1, any, any, any]);
+        shares[0].extend(part.to_le_bytes());
+        shares[1].extend(add(total, negate(part)).to_le_bytes());
+    }
+    shares
 }
 
 /// Clears the spare bits and takes the payload corrections modulo p, so that all pass 6 and 7.

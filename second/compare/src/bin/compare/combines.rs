@@ -5,7 +5,7 @@ use compare::calls;
 use compare::make::*;
 use compare::queries;
 use compare::tally::{shown, Outcome, Plan, Space, Tally};
-use second::field::{add, negate, reduce, P};
+use second::field::{reduce, P};
 use second::rng::Rng;
 
 const DAMAGES: [&str; 11] = [
@@ -40,18 +40,6 @@ pub fn run(start: u64, count: usize, tally: &mut Tally) {
     combine_cases::each(|name, wanted, call| {
         compare(&mut rng, &Plan::fixed(name, &wanted), call, tally);
     });
-}
-
-/// Two shares with these totals.
-fn split(rng: &mut Rng, totals: &[u64]) -> [Vec<u8>; 2] {
-    let mut shares = [Vec::new(), Vec::new()];
-    for &total in totals {
-        let any = reduce(rng.number());
-        let part = rng.pick(&[0, 1, P - 1, any, any, any]);
-        shares[0].extend(part.to_le_bytes());
-        shares[1].extend(add(total, negate(part)).to_le_bytes());
-    }
-    shares
 }
 
 fn damaged(rng: &mut Rng, plan: &Plan) -> Call {
@@ -107,15 +95,6 @@ fn damaged(rng: &mut Rng, plan: &Plan) -> Call {
         }
     }
     call
-}
-
-/// Writes one number of a share, one too large where none is given.
-fn set_number(rng: &mut Rng, share: &mut [u8], number: Option<u64>) {
-    let number = number.unwrap_or_else(|| too_large(rng));
-    if share.len() >= 8 {
-        let at = 8 * rng.below(share.len() / 8);
-        share[at..at + 8].copy_from_slice(&number.to_le_bytes());
-    }
 }
 
 fn hostile(rng: &mut Rng) -> Call {

@@ -3,6 +3,10 @@
 //!
 //! Arguments, all optional: seed=S calls=N spoil=K trace
 
+#[cfg(feature = "keys")]
+mod add_cases;
+#[cfg(feature = "keys")]
+mod adds;
 #[cfg(feature = "block")]
 mod blocks;
 #[cfg(feature = "combine")]
@@ -28,7 +32,7 @@ use compare::{calls, tally};
 use std::process::ExitCode;
 
 /// The numbers each call must have been seen to return.
-const NUMBERS: [(&str, bool, &[u64]); 6] = [
+const NUMBERS: [(&str, bool, &[u64]); 7] = [
     ("block", cfg!(feature = "block"), &[0, 3, 4, 11]),
     ("key", cfg!(feature = "keys"), &[0, 1, 3, 4, 7, 11]),
     (
@@ -36,6 +40,7 @@ const NUMBERS: [(&str, bool, &[u64]); 6] = [
         cfg!(feature = "keys"),
         &[0, 1, 3, 4, 5, 6, 7, 9, 11],
     ),
+    ("add", cfg!(feature = "keys"), &[0, 4, 6, 11]),
     (
         "combine",
         cfg!(feature = "combine"),
@@ -78,6 +83,8 @@ fn main() -> ExitCode {
     keys::run(seed, count, &mut tally);
     #[cfg(feature = "keys")]
     shares::run(seed, count, &mut tally);
+    #[cfg(feature = "keys")]
+    adds::run(seed, count, &mut tally);
     #[cfg(feature = "combine")]
     combines::run(seed, count, &mut tally);
     #[cfg(feature = "search")]

@@ -2,6 +2,7 @@
 
 use crate::judged::{Call, Judged};
 use compare::calls;
+use second::field::{read, P};
 use second::rng::Rng;
 
 /// The generator and the judge that every call is given.
@@ -57,6 +58,26 @@ impl Fuzz<'_> {
         };
         let [share] = self.judged.call(&mut self.rng, &call, inputs, [room], make);
         share
+    }
+
+    /// An answer has the length of either share, and each of its numbers is below p.
+    pub fn add(&mut self, inputs: [&[u8]; 2], room: usize) {
+        let call = Call {
+            name: "add",
+            may: &[0, 4, 6, 11],
+            fields: &[],
+        };
+        let mut right = true;
+        let make = |[share0, share1]: [&[u8]; 2], [out]: [&mut [u8]; 1]| {
+            let reply = calls::add(share0, share1, out);
+            let length = reply.length as usize;
+            right = reply.number != 0 || [share0, share1].iter().all(|share| share.len() == length);
+            (reply.number, [reply.length])
+        };
+        let [sums] = self.judged.call(&mut self.rng, &call, inputs, [room], make);
+        if !right || sums.chunks_exact(8).any(|sum| read(sum) >= P) {
+            self.judged.fault("add: an answer that is no share");
+        }
     }
 
     /// A refusal is of kind 0 and an answer is not; a search that ended has no bytes.

@@ -3,7 +3,7 @@
 use crate::inputs::{bytes, length, number, perhaps, seeds};
 use crate::judged::Judged;
 use crate::making::Fuzz;
-use compare::make::{any_number, pass_six_and_seven};
+use compare::make::{any_number, pass_six_and_seven, set_number};
 use compare::queries;
 #[cfg(feature = "exam")]
 use compare::sheets::{change_byte, wild_text, Sheet};
@@ -31,6 +31,7 @@ pub fn run(seed: u64, judged: &mut Judged) {
     fuzz.any_block();
     let reports = fuzz.reports();
     let (query, shares) = fuzz.shares(&reports);
+    fuzz.adds(&shares);
     fuzz.combines(reports.n as u64, &query, &shares);
     fuzz.searches(&reports);
     fuzz.wild();
@@ -117,6 +118,29 @@ impl Fuzz<'_> {
         (query, shares)
     }
 
+    /// The shares added as if they were one server's, and then inputs near those.
+    fn adds(&mut self, shares: &[Vec<u8>; 2]) {
+        let honest = shares.each_ref().map(|share| &share[..]);
+        let size = honest[0].len();
+        self.add(honest, size);
+        let rng = &mut self.rng;
+        let mut near = honest.map(|share| perhaps(rng, share));
+        match rng.below(8) {
+            0 => {
+                // Equal lengths, mostly no multiple of 8.
+                let equal = length(rng, size + 1);
+                near.iter_mut().for_each(|share| share.resize(equal, 0));
+            }
+            1 => {
+                let either = rng.below(2);
+                set_number(rng, &mut near[either], None);
+            }
+            _ => {}
+        }
+        let room = length(rng, size);
+        self.add(near.each_ref().map(|b| &b[..]), room);
+    }
+
     /// A query combined with its shares, and then with inputs near those.
     fn combines(&mut self, n: u64, query: &[u8], shares: &[Vec<u8>; 2]) {
         let size = 6 + 2 * query.len();
@@ -161,12 +185,13 @@ impl Fuzz<'_> {
         let (n, t) = (any_number(rng), any_number(rng));
         let (expander, server) = (number(rng, 1), rng.coin());
         let any: [Vec<u8>; 4] = std::array::from_fn(|_| bytes(rng, 16));
-        let rooms: [usize; 5] = std::array::from_fn(|_| length(rng, 16));
+        let rooms: [usize; 6] = std::array::from_fn(|_| length(rng, 16));
         let [a, b, c, d] = any.each_ref().map(|bytes| &bytes[..]);
         self.key(n, expander, [a, b, c], rooms[0]);
         self.share((n, expander, server), [a, b, c], rooms[1]);
         self.combine(n, t, [a, b, c], rooms[2]);
         self.search((n, t, expander), [a, b, c, d], [rooms[3], rooms[4]]);
+        self.add([a, b], rooms[5]);
     }
 
     /// As many reports as there may be, or one more, all of them zero bytes.
@@ -177,6 +202,7 @@ impl Fuzz<'_> {
         let server = self.rng.coin();
         self.share((1, 2, server), [&seeds, &public, &query], 16);
         self.search((1, 1, 2), [&seeds, &public, &seeds, &public], [24, 2]);
+        self.add([&seeds, &seeds], seeds.len());
     }
 
     /// A small sheet, the same changed a little, and a text of any bytes.
