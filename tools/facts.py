@@ -5,7 +5,7 @@ import glob
 import re
 import sys
 
-MISSING = re.compile(r"is not in scope|has no field|differ only where one has `[^`]*\.Lts\.(After|Then|Else|In|At|Start)|cannot be applied|does not take")
+MISSING = re.compile(r"is not in scope|has no field|has no `Tie`|differ only where one has `[^`]*\.Lts\.(After|Then|Else|In|At|Start)|cannot be applied|does not take")
 
 
 def first_error(path):
