@@ -204,7 +204,8 @@ tally_reply tally_share(uint64_t n, uint64_t expander, bool server,
                         uint8_t *share, size_t share_length);
 
 // Writes the sum of two shares of one server for one query: for each prefix in order the sum of its two numbers modulo p. Where they are what
-// tally_share writes for two lists of reports, with at most 65,535 reports together, it is what tally_share writes for both laid together.
+// tally_share writes for two lists of reports, with the same n and expander and at most 65,535 reports together, it is what tally_share
+// writes for both laid together.
 // Reads: both shares, 8 bytes for each prefix.
 // Writes: as many bytes of out as either share has.
 // Refuses with 4, the shares' lengths differ or are no multiple of 8; 6; 11.

@@ -18,7 +18,10 @@ def first_error(path):
 
 def main():
     faults = []
-    for path in sorted(glob.glob("target/must-fail/*/*/.log")):
+    logs, edits = sorted(glob.glob("target/must-fail/*/*/.log")), glob.glob("crates/*/must-fail/*.edit")
+    if len(logs) != len(edits):
+        faults.append("%d logs for %d edits" % (len(logs), len(edits)))
+    for path in logs:
         error = first_error(path)
         if not error or MISSING.search(error) or "is not in scope: add" in open(path).read():
             faults.append("%s: %s" % ("/".join(path.split("/")[2:4]), error[-300:] or "no error in its log"))

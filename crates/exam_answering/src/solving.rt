@@ -15,6 +15,7 @@ ghost use Rattle.search.specs.Search.{lent};
 ghost use Rattle.honest.specs.Honest.{Accepted, recordRead, listRead};
 ghost use Rattle.exam_text.specs.Sheet.{expanderNumber};
 ghost use Rattle.exam_text.specs.Reader.{isSheet, sheetOf};
+ghost use Rattle.exam_reports.specs.SheetReports.{seeds0Of, seeds1Of, publicSharesOf};
 ghost use Rattle.exam_text.proofs.Records.{Rounds};
 ghost use Rattle.exam_answering.specs.Printing.{printed, roundLength};
 ghost use Rattle.exam_answering.specs.SheetSearch.{searchedText, searchText};
@@ -78,6 +79,9 @@ fn print_answer(
         (count ≡ length (sheetOf (now text) .lines)) ⌝ }
     requires { ⌜ (length (now seeds0) ≡ 512) × (length (now seeds1) ≡ 512) × (length (now shares) ≡ 24832) × (length (now area) ≡ 19374) ×
         (length (now list) ≡ 128) × (length (now out) ≡ 43232) ⌝ }
+    ensures { λ _. ⌜ (now (seeds0 .exit) ≡ overlay (seeds0Of (sheetOf (now (text .entry)))) (now (seeds0 .entry)))
+        × (now (seeds1 .exit) ≡ overlay (seeds1Of (sheetOf (now (text .entry)))) (now (seeds1 .entry)))
+        × (now (shares .exit) ≡ overlay (publicSharesOf (sheetOf (now (text .entry)))) (now (shares .entry))) ⌝ }
     ensures { λ r. ⌜ (r ≡ length (searchedText (sheetOf (now (text .entry))) (now (area .entry)) (now (list .entry)))) × (r ≤ 43232) ⌝ }
     ensures { λ _. ⌜ now (out .exit) ≡ overlay (searchedText (sheetOf (now (text .entry))) (now (area .entry)) (now (list .entry))) (now (out .entry)) ⌝ }
 {

@@ -60,6 +60,10 @@ module _ (text seeds0 seeds1 shares : List ℕ) where
           unfolding readSheet reportsMade
           stand = rw (read, made-fit ∙ fits)
 
+          pub reports-stand : (r : Bool) (a b c : List ℕ) → madeWith r a b c ≡ reportsMade (readSheet text) seeds0 seeds1 shares
+              → (a ≡ overlay (seeds0Of (sheetOf text)) seeds0) × (b ≡ overlay (seeds1Of (sheetOf text)) seeds1) × (c ≡ overlay (publicSharesOf (sheetOf text)) shares)
+          reports-stand r a b c e = let is = e ∙ stand in (ap (λ (x : Made). x .seeds0) is, ap (λ (x : Made). x .seeds1) is, ap (λ (x : Made). x .shares) is)
+
           read-back : (bytes area area′ : List ℕ) (m : ℕ) → area′ ≡ overlay bytes area → length bytes ≡ m → take m area′ ≡ bytes
           unfolding overlay
           read-back bytes area area′ m is size = ap (take m) is ∙ take-at bytes _ m size
@@ -68,11 +72,11 @@ module _ (text seeds0 seeds1 shares : List ℕ) where
               → (take (16 * C) a ≡ seeds0Of (sheetOf text)) × (take (16 * C) b ≡ seeds1Of (sheetOf text)) × (take (publicShareLength n * C) c ≡ publicSharesOf (sheetOf text))
           reports-read r a b c e =
               let w = sheet-within text read .0 in
-              let is = e ∙ stand in
+              let is = reports-stand r a b c e in
               let size = shares-size (sheetOf text) w from known ∙ ap₂ (λ (k m : ℕ). publicShareLength k * m) (sym same-n) (sym same-C) in (
-                read-back (seeds0Of (sheetOf text)) seeds0 a (16 * C) (ap (λ (x : Made). x .seeds0) is) (seeds0-size (sheetOf text) w ∙ ap (λ (m : ℕ). 16 * m) (sym same-C)),
-                read-back (seeds1Of (sheetOf text)) seeds1 b (16 * C) (ap (λ (x : Made). x .seeds1) is) (seeds1-size (sheetOf text) w ∙ ap (λ (m : ℕ). 16 * m) (sym same-C)),
-                read-back (publicSharesOf (sheetOf text)) shares c (publicShareLength n * C) (ap (λ (x : Made). x .shares) is) size,
+                read-back (seeds0Of (sheetOf text)) seeds0 a (16 * C) (is .0) (seeds0-size (sheetOf text) w ∙ ap (λ (m : ℕ). 16 * m) (sym same-C)),
+                read-back (seeds1Of (sheetOf text)) seeds1 b (16 * C) (is .1) (seeds1-size (sheetOf text) w ∙ ap (λ (m : ℕ). 16 * m) (sym same-C)),
+                read-back (publicSharesOf (sheetOf text)) shares c (publicShareLength n * C) (is .2) size,
               )
 
         -- All fit, and the areas hold the reports of the lines that stand from place `at` on.

@@ -31,7 +31,7 @@ seeds1Of s = eachLine (λ l. l .seed1) (s .lines)
 abbrev pub publicSharesOf : Sheet → List ℕ
 publicSharesOf s = eachLine (publicShareFor (s .n) (expanderNumber (s .expander))) (s .lines)
 
--- ---- the call `make_reports`
+-- ---- the function `make_reports`
 
 -- whether they are made in areas of these lengths: n is not 0, the expander is 1 or 2, and all of them fit
 abbrev pub areMade : Sheet → ℕ → ℕ → ℕ → Bool
@@ -40,7 +40,7 @@ areMade s room0 room1 room =
     && (isExpander (expanderNumber (s .expander))
     && (leb (length (seeds0Of s)) room0 && (leb (length (seeds1Of s)) room1 && leb (length (publicSharesOf s)) room)))
 
--- What the call tells, and the three areas at exit.
+-- What it tells, and the three areas at exit.
 pub record Made : Type 0 where
   pub made : Bool
   pub seeds0 : List ℕ

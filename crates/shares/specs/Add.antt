@@ -1,4 +1,4 @@
--- The call `add_shares`: two shares of one server for one query, added.
+-- The call `add_shares`: two shares added, meant for two of one server for one query.
 use Prim.Native.Nat.{ℕ}
 use mathlib.Core.List.{List, [], _∷_}
 use lib.ListN.{length}

@@ -16,7 +16,7 @@ use Rattle.exam_text.specs.Reader.{sheetOf}
 use Rattle.exam_text.proofs.Records.{Rounds}
 use Rattle.exam_text.proofs.ReaderExact.{sheet-within}
 use Rattle.exam_reports.specs.SheetReports.{seeds0Of, seeds1Of, publicSharesOf}
-use Rattle.exam_reports.proofs.SheetMaking.{reports-read}
+use Rattle.exam_reports.proofs.SheetMaking.{reports-stand, reports-read}
 use Rattle.exam_answering.specs.Printing.{printed, roundLength}
 use Rattle.exam_answering.specs.SheetSearch.{sheetSearch, searchedText}
 use Rattle.exam_answering.proofs.Longest.{answer-most}
@@ -82,6 +82,16 @@ second k = made k .make-reports .last .1 .1 .0
 abbrev third : tie.After-public-share-length → List ℕ
 third k = made k .make-reports .last .1 .1 .1 .0
 
+stand : (k : tie.After-public-share-length) → let s = start k in
+    (first k ≡ overlay (seeds0Of (sheet s)) (s .args .seeds0 .now)) × (second k ≡ overlay (seeds1Of (sheet s)) (s .args .seeds1 .now))
+    × (third k ≡ overlay (publicSharesOf (sheet s)) (s .args .shares .now))
+stand k =
+    let s = start k in
+    let a = s .args in
+    reports-stand (a .text .now) (a .seeds0 .now) (a .seeds1 .now) (a .shares .now) (s .pre .0 .0) (from s) (known s) (a .n) (a .count) (s .pre .1 .0 .0) (s .pre .1 .0 .3)
+    (omega (arith, s .pre .0 .6, s .pre .1 .1 .0)) (omega (arith, s .pre .0 .6, s .pre .1 .1 .1))
+    (omega (arith, shares-room (a .n) (a .count) _ refl (s .pre .0 .2) (s .pre .0 .6), s .pre .1 .1 .2)) _ _ _ _ (made k .make-reports .ensures)
+
 reports : (k : tie.After-public-share-length) → let s = start k in let n = s .args .n in let C = s .args .count in
     (take (16 * C) (first k) ≡ seeds0Of (sheet s)) × (take (16 * C) (second k) ≡ seeds1Of (sheet s)) × (take (publicShareLength n * C) (third k) ≡ publicSharesOf (sheet s))
 reports k =
@@ -144,8 +154,11 @@ returns c =
     let p = c .before .before .before .before .before .before in
     let k = p .before .before .before .before .before .before .before in
     let size = p .search-printed .ensures .0 ∙ ap length (same-text k) in (
-      (size, omega (arith, size, fits (start k))),
-      p .search-printed .ensures .1 ∙ ap (λ (bytes : List ℕ). overlay bytes (start k .args .out .now)) (same-text k),
+      stand k,
+      (
+        (size, omega (arith, size, fits (start k))),
+        p .search-printed .ensures .1 ∙ ap (λ (bytes : List ℕ). overlay bytes (start k .args .out .now)) (same-text k),
+      ),
     )
 
 pub print-answer-spec : {M : Type 1} → statement M

@@ -23,11 +23,11 @@ abbrev answer : tie.After-print-answer → List ℕ
 answer p = searchText (sheetOf (start p .args .text .now))
 
 size-is : (p : tie.After-print-answer) → p .print-answer .result ≡ length (answer p)
-size-is p = p .print-answer .ensures .0 .0
+size-is p = p .print-answer .ensures .1 .0 .0
 
 printed-is : (p : tie.After-print-answer) → take (p .print-answer .result) (p .print-answer .last .1 .1 .1 .1 .1 .1 .1 .1 .1 .1 .0) ≡ answer p
 unfolding overlay
-printed-is p = ap₂ take (size-is p) (p .print-answer .ensures .1) ∙ take-append-seam (answer p) _
+printed-is p = ap₂ take (size-is p) (p .print-answer .ensures .1 .1) ∙ take-append-seam (answer p) _
 
 -- zeros, as many as were written
 zeros : (n : ℕ) → length {A = ℕ} (replicate n 0) ≡ n
