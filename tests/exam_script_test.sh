@@ -1,0 +1,169 @@
+#!/usr/bin/env bash
+# The script `exam` around a program: first uses at once, failures with their own sentences, staleness, options. A stand-in for the kit builds a
+# stand-in for the program, so that a build takes a second.
+set -euo pipefail
+cd "$(dirname "$0")/.."
+work=$(mktemp -d)
+trap 'chmod -R u+w "$work"; rm -rf "$work"' EXIT
+
+fault() {
+    echo "exam_script_test: $1" >&2
+    exit 1
+}
+
+# tree NAME: a fresh checkout with nothing built
+tree() {
+    here=$work/$1
+    mkdir -p "$here/crates/exam/src" "$here/tools" "$here/kit"
+    cp exam "$here/exam"
+    cp tools/explain.py "$here/tools/explain.py"
+    echo 'exam:' >"$here/crates.txt"
+    echo '// source' >"$here/crates/exam/src/main.rt"
+    echo 'kit one' >"$here/kit/version"
+    : >"$here/kit/builds"
+    echo good >"$here/kit/behaviour"
+    cat >"$here/kit/program" <<'END'
+#!/usr/bin/env bash
+text=$(cat)
+case $text in
+    bad*) echo 'refused 10' ;;
+    fail*) exit 3 ;;
+    mute*) echo 'exam: standard input cannot be read' >&2 ;;
+    *) echo "answer to $text" ;;
+esac
+END
+    cat >"$here/kit/rt" <<'END'
+#!/usr/bin/env bash
+kit=$(dirname "$0")
+case $1 in
+    version) cat "$kit/version" ;;
+    check)
+        echo build >>"$kit/builds"
+        sleep 1
+        case $(cat "$kit/behaviour") in
+            unproved) echo 'logic=not-proved'; exit 1 ;;
+            broken) echo 'no space left on device'; exit 1 ;;
+            slow) sleep 300 & echo $! >"$kit/worker"; wait ;;
+        esac
+        mkdir -p target/bin
+        cp "$kit/program" target/bin/exam
+        chmod +x target/bin/exam
+        ;;
+esac
+END
+    chmod +x "$here/kit/rt" "$here/kit/program" "$here/exam"
+    PATH=$here/kit:$plain
+}
+# the path without the kit
+plain=
+IFS=: read -ra folders <<<"$PATH"
+for folder in "${folders[@]}"; do
+    [ -x "$folder/rt" ] || plain=${plain:+$plain:}$folder
+done
+builds() { wc -l <"$here/kit/builds"; }
+
+# expect STATUS TEXT SENTENCE ARGUMENTS ..: runs the script on the text, and looks for its status and for a sentence in what it says
+expect() {
+    local status=$1 text=$2 sentence=$3 got=0
+    shift 3
+    printf '%s\n' "$text" | "$here/exam" "$@" >"$work/out" 2>"$work/err" || got=$?
+    [ "$got" -eq "$status" ] || fault "status $got and not $status for '$text' ($(cat "$work/err"))"
+    grep -q -- "$sentence" "$work/out" "$work/err" || fault "'$sentence' was not said: $(cat "$work/out" "$work/err")"
+}
+
+# two first uses at once: one build, two answers
+tree together
+echo one | "$here/exam" >"$work/one" 2>"$work/one.err" &
+first=$!
+echo two | "$here/exam" >"$work/two" 2>"$work/two.err" || fault 'the second use failed'
+wait "$first" || fault 'the first use failed'
+[ "$(cat "$work/one" "$work/two")" = "$(printf 'answer to one\nanswer to two')" ] || fault 'the answers of two uses at once'
+[ "$(builds)" -eq 1 ] || fault 'two builds for two uses at once'
+
+# each failure has its own sentence
+tree failures
+expect 0 hello 'answer to hello'
+expect 1 fail 'the run failed with status 3'
+expect 1 mute 'standard input cannot be read'
+tree unproved
+echo unproved >"$here/kit/behaviour"
+expect 1 hello 'is not proved'
+tree broken
+echo broken >"$here/kit/behaviour"
+expect 1 hello 'could not be built'
+tree nokit
+PATH=$plain expect 1 hello 'the Rattle kit is needed'
+tree unwritable
+: >"$here/target"
+expect 1 hello 'no right to write'
+
+# an interrupted build stops all that it started, and is made again
+tree interrupted
+echo slow >"$here/kit/behaviour"
+echo hello | "$here/exam" >"$work/out" 2>"$work/err" &
+script=$!
+for _ in $(seq 100); do [ -s "$here/kit/worker" ] && break; sleep 0.1; done
+kill -TERM "$script"
+wait "$script" && fault 'an interrupted build gave status 0'
+grep -q 'interrupted' "$work/err" || fault "an interrupted build said: $(cat "$work/err")"
+sleep 0.5
+kill -0 "$(cat "$here/kit/worker")" 2>/dev/null && fault 'what the build started still runs'
+echo good >"$here/kit/behaviour"
+expect 0 hello 'answer to hello'
+
+# by a symbolic link, with CDPATH, without TMPDIR, and from a tree that nobody can write
+tree places
+expect 0 hello 'answer to hello'
+ln -s "$here/exam" "$work/link"
+[ "$(echo hello | "$work/link")" = 'answer to hello' ] || fault 'by a symbolic link'
+[ "$(cd "$here" && echo hello | CDPATH=/ ./exam)" = 'answer to hello' ] || fault 'with CDPATH'
+[ "$(echo hello | TMPDIR=/missing "$here/exam")" = 'answer to hello' ] || fault 'without TMPDIR'
+chmod -R a-w "$here"
+if [ "$(id -u)" -eq 0 ]; then
+    chmod a+rx "$work"
+    [ "$(echo hello | setpriv --reuid=65534 --regid=65534 --clear-groups "$here/exam")" = 'answer to hello' ] || fault 'from a tree that cannot be written'
+else
+    [ "$(echo hello | "$here/exam")" = 'answer to hello' ] || fault 'from a tree that cannot be written'
+fi
+chmod -R u+w "$here"
+
+# never stale, and never used after a failed build
+tree stale
+expect 0 hello 'answer to hello'
+[ "$(builds)" -eq 1 ] || fault 'the first use did not build once'
+expect 0 hello 'answer to hello'
+[ "$(builds)" -eq 1 ] || fault 'built again though nothing changed'
+echo '// another' >>"$here/crates/exam/src/main.rt"
+expect 0 hello 'answer to hello'
+[ "$(builds)" -eq 2 ] || fault 'not built again for another source'
+echo 'kit two' >"$here/kit/version"
+expect 0 hello 'answer to hello'
+[ "$(builds)" -eq 3 ] || fault 'not built again for another kit'
+echo '// a third' >>"$here/crates/exam/src/main.rt"
+echo unproved >"$here/kit/behaviour"
+expect 1 hello 'is not proved'
+expect 1 hello 'is not proved'
+
+# a closed output
+tree closed
+expect 0 hello 'answer to hello'
+got=0
+echo hello | "$here/exam" >&- 2>"$work/err" || got=$?
+[ "$got" -eq 1 ] && grep -q 'standard output is closed' "$work/err" || fault "status $got with standard output closed: $(cat "$work/err")"
+{ { sleep 0.5; echo hello; } | { "$here/exam" 2>"$work/err"; echo $? >"$work/status"; } | true; } || true
+for _ in $(seq 50); do [ -s "$work/status" ] && break; sleep 0.1; done
+[ "$(cat "$work/status")" -eq 1 ] && [ -s "$work/err" ] || fault "status $(cat "$work/status") into a closed pipe: $(cat "$work/err")"
+
+# options and files
+tree options
+expect 0 '' 'usage: exam' --help
+expect 2 '' 'there is no option --wrong' --wrong
+expect 0 '' 'kit ' --version
+echo first >"$work/a"
+echo bad >"$work/b"
+expect 0 '' 'answer to first' "$work/a"
+"$here/exam" "$work/a" "$work/b" >"$work/out"
+[ "$(cat "$work/out")" = "$(printf '%s\nanswer to first\n\n%s\nrefused 10' "$work/a" "$work/b")" ] || fault "several files: $(cat "$work/out")"
+expect 1 '' 'cannot be read' "$work/missing"
+expect 0 bad 'line 1, column 1: expected a decimal digit of n' --explain
+[ "$(cat "$work/out")" = 'refused 10' ] || fault 'with --explain another output'
