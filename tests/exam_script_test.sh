@@ -107,7 +107,8 @@ kill -TERM "$script"
 wait "$script" && fault 'an interrupted build gave status 0'
 grep -q 'interrupted' "$work/err" || fault "an interrupted build said: $(cat "$work/err")"
 sleep 0.5
-kill -0 "$(cat "$here/kit/worker")" 2>/dev/null && fault 'what the build started still runs'
+worker=$(cat "$here/kit/worker")
+[ -e "/proc/$worker/stat" ] && ! grep -q ') Z ' "/proc/$worker/stat" && fault 'what the build started still runs'
 echo good >"$here/kit/behaviour"
 expect 0 hello 'answer to hello'
 
