@@ -7,7 +7,7 @@
 //
 // What every call does:
 // - It reads and writes only what it is lent: each area is a pointer and a length in bytes.
-// - No pointer may be null, not even with length 0.
+// - No pointer may be null, not even with length 0: TALLY_EMPTY can be lent there.
 // - An area that is written may not overlap any other area of the same call; areas that are only read may overlap each other.
 // - It keeps nothing: no allocation, no state between calls, so calls from several threads are independent.
 // - It returns number 0 on success, with how many bytes were written from the beginning of an area; bytes past them are unchanged.
@@ -15,6 +15,9 @@
 //   unchanged; with one exception: when tally_search refuses with 11, every byte of the record area becomes zero.
 // - It takes stack for each bit of n: a search with n = 256 was measured at 194 KiB on x86-64, so a thread should have 256 KiB or more;
 //   tally_exam ran in 128 KiB.
+// - The archive is not instrumented: a caller's sanitizer sees the caller's own reads and writes, and the library's where they go through a
+//   memcpy or memset that the sanitizer has replaced, but no others inside a call, and one that looks for bytes never written may take what a
+//   call wrote or returned for such.
 //
 //  number | cause of refusal
 //  -------+---------------------------------------------------------------------------------------------------------------
@@ -57,6 +60,9 @@
 extern "C" {
 #endif
 
+// The version of this header and of the library beside it.
+#define TALLY_VERSION "0.1.0"
+
 // ---- numbers
 
 // The causes of refusal, and success.
@@ -72,6 +78,39 @@ extern "C" {
 #define TALLY_REFUSED_QUERY 9
 #define TALLY_REFUSED_EXAM_TEXT 10
 #define TALLY_REFUSED_SPACE 11
+
+// A sentence for each number that a call returns. It is plain C in this header and no part of the proved library.
+static inline const char *tally_refusal_text(uint64_t number)
+{
+    switch (number) {
+    case TALLY_OK:
+        return "The call succeeded.";
+    case TALLY_REFUSED_STRING_LENGTH:
+        return "The string length is not from 1 to 256.";
+    case TALLY_REFUSED_THRESHOLD:
+        return "The threshold is not from 1 to 65,535.";
+    case TALLY_REFUSED_EXPANDER:
+        return "The expander is not 1 or 2.";
+    case TALLY_REFUSED_INPUT_LENGTH:
+        return "A lent input has the wrong length, or seeds and public shares disagree in count.";
+    case TALLY_REFUSED_TOO_MANY_REPORTS:
+        return "There are more than 65,535 reports.";
+    case TALLY_REFUSED_GROUP_NUMBER:
+        return "A group number, in a public share or in a share, is p or more.";
+    case TALLY_REFUSED_SPARE_BITS:
+        return "Spare bits are set in a string or in a public share.";
+    case TALLY_REFUSED_PUBLIC_SHARES_DIFFER:
+        return "The two servers' public shares differ.";
+    case TALLY_REFUSED_QUERY:
+        return "The query is not as laid out, or is outside its limits.";
+    case TALLY_REFUSED_EXAM_TEXT:
+        return "The exam text is not as laid out.";
+    case TALLY_REFUSED_SPACE:
+        return "What is to be written would not fit the lent space, or a next query would pass 131,070 prefixes.";
+    default:
+        return "unknown number";
+    }
+}
 
 // The expanders: AES-128, and the classroom's, which hides nothing.
 #define TALLY_EXPANDER_AES 1
@@ -96,6 +135,15 @@ extern "C" {
 
 // The order p of the group.
 #define TALLY_GROUP_ORDER UINT64_C(18446744069414584321)
+
+// What to lend, with length 0, where there is nothing to read or to write: a pointer to a static byte that no call touches, since no pointer
+// may be null.
+static inline uint8_t *tally_empty(void)
+{
+    static uint8_t untouched;
+    return &untouched;
+}
+#define TALLY_EMPTY tally_empty()
 
 // ---- lengths in bytes
 
@@ -233,7 +281,10 @@ tally_combine_reply tally_combine(uint64_t n, uint64_t t,
 // Writes: the record, each query followed by its totals, into record; the list into list. tally_record_space(n, t, reports) and
 // tally_list_space(n, t, reports) are enough for honest reports; ill-formed ones may need more.
 // Refuses with 1; 2; 3; 4, seeds or public shares of a server are not whole or disagree in count, or the servers' counts differ; 5; 6; 7;
-// 8; 11, and then makes every byte of the record area zero, while the list area is unchanged.
+// 8; 11, and then makes every byte of the record area zero, while the list area is unchanged. With at least these two spaces 11 means that
+// the reports are not all honest, that is, not all what tally_key was given and wrote for one string of n bits with this expander, each server
+// lent its own seed: a search of honest reports is then accepted. Where more space lets the others pass, nothing is claimed of their list; and
+// 0 does not say that all are honest.
 tally_found tally_search(uint64_t n, uint64_t t, uint64_t expander,
                          const uint8_t *seeds0, size_t seeds0_length,
                          const uint8_t *public_shares0, size_t public_shares0_length,
