@@ -17,8 +17,6 @@ pub const EXAM_SPACE: usize = 43_232;
 /// line. n, t, C and e are decimal, at most 5 digits without leading zeros (zero is `0`); n and C are at most 32; e is the expander's number,
 /// and where it is missing, with the space before it, it is 2. A string is n digits 0 or 1, a seed 32 hexadecimal digits in lower case. The text has at most 4,096 bytes.
 ///
-/// Refuses with 10, judged first; 1 where n is 0; 2 or 3.
-///
 /// ```
 /// use tally::{exam, Refusal};
 ///
@@ -30,13 +28,18 @@ pub const EXAM_SPACE: usize = 43_232;
 /// assert_eq!(exam(text.as_bytes())?, b"0 2\n1 1\n00 0\n01 2\nheavy 01\n");
 /// # Ok::<(), Refusal>(())
 /// ```
+///
+/// # Errors
+///
+/// * 10, [`Refusal::ExamText`]: judged first;
+/// * 1, [`Refusal::StringLength`]: n is 0;
+/// * 2, [`Refusal::Threshold`];
+/// * 3, [`Refusal::Expander`].
 pub fn exam(text: &[u8]) -> Result<Vec<u8>, Refusal> {
     written(EXAM_SPACE, |out| exam_into(text, out))
 }
 
 /// Writes the answer to an exam text into `out`, and returns how many bytes that is; [`EXAM_SPACE`] bytes are enough.
-///
-/// Refuses with 10, judged first; 1, 2, 3 or 11.
 ///
 /// ```
 /// use tally::{exam_into, Refusal};
@@ -46,6 +49,14 @@ pub fn exam(text: &[u8]) -> Result<Vec<u8>, Refusal> {
 /// assert_eq!(&out, b"0 0\n1 0\n");
 /// # Ok::<(), Refusal>(())
 /// ```
+///
+/// # Errors
+///
+/// * 10, [`Refusal::ExamText`]: judged first;
+/// * 1, [`Refusal::StringLength`]: n is 0;
+/// * 2, [`Refusal::Threshold`];
+/// * 3, [`Refusal::Expander`];
+/// * 11, [`Refusal::Space`]: `out` is too small for the whole answer.
 pub fn exam_into(text: &[u8], out: &mut [u8]) -> Result<usize, Refusal> {
     let reply = tally_sys::exam(text, out);
     accepted(reply.number, reply.length, out.len())

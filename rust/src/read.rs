@@ -17,7 +17,7 @@ pub(crate) fn laid_out(query: &[u8]) -> Option<(u64, usize)> {
 }
 
 /// The group numbers of some bytes, 8 bytes each.
-fn numbers(bytes: &[u8]) -> impl Iterator<Item = u64> + '_ {
+pub(crate) fn numbers(bytes: &[u8]) -> impl Iterator<Item = u64> + '_ {
     bytes.chunks_exact(8).map(|eight| {
         let number = eight.iter().rev();
         number.fold(0, |high, &byte| high << 8 | u64::from(byte))

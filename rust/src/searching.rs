@@ -1,0 +1,93 @@
+//! The whole search, where one program holds both servers' reports.
+
+use crate::{accepted, list_space, record_space, Expander, Found, Refusal, Reports};
+
+/// The whole search over both servers' reports: its record and its list.
+///
+/// The space is what honest reports need. Lend more to [`search_into`] to see what ill-formed reports give.
+///
+/// ```
+/// use tally::{make_key, search, strings, Expander, Refusal, Reports};
+///
+/// let public_share = make_key(16, Expander::Aes, &[0xbe, 0xef], &[1; 16], &[2; 16])?;
+/// let zero = Reports { seeds: &[[1; 16]], public_shares: &public_share };
+/// let one = Reports { seeds: &[[2; 16]], public_shares: &public_share };
+/// let found = search(16, 1, Expander::Aes, zero, one)?;
+/// assert_eq!(strings(16, &found.list).collect::<Vec<_>>(), [[0xbe, 0xef]]);
+/// # Ok::<(), Refusal>(())
+/// ```
+///
+/// # Errors
+///
+/// * 1, [`Refusal::StringLength`];
+/// * 2, [`Refusal::Threshold`];
+/// * 4, [`Refusal::InputLength`]: a server's seeds and public shares disagree in count, a public share is not whole, or the servers' counts differ;
+/// * 5, [`Refusal::TooManyReports`];
+/// * 6, [`Refusal::GroupNumber`]: in any public share;
+/// * 7, [`Refusal::SpareBits`]: in any public share;
+/// * 8, [`Refusal::PublicSharesDiffer`];
+/// * 11, [`Refusal::Space`]: ill-formed reports would need more space.
+pub fn search(
+    n: u64,
+    t: u64,
+    expander: Expander,
+    zero: Reports<'_>,
+    one: Reports<'_>,
+) -> Result<Found, Refusal> {
+    let reports = zero.seeds.len();
+    let mut record = vec![0; record_space(n, t, reports)];
+    let mut list = vec![0; list_space(n, t, reports)];
+    let found = search_into(n, t, expander, zero, one, &mut record, &mut list)?;
+    record.truncate(found.record);
+    list.truncate(found.list);
+    Ok(Found { record, list })
+}
+
+/// Writes the record and the list of a whole search into their areas, and returns how many bytes of each; [`record_space`] and [`list_space`]
+/// are enough for honest reports.
+///
+/// ```
+/// use tally::{search_into, Expander, Found, Refusal, Reports};
+///
+/// let none = Reports { seeds: &[], public_shares: &[] };
+/// let mut record = [7; 24];
+/// let found = search_into(1, 1, Expander::Aes, none, none, &mut record, &mut [])?;
+/// assert_eq!(found, Found { record: 24, list: 0 });
+/// # Ok::<(), Refusal>(())
+/// ```
+///
+/// # Errors
+///
+/// * 1, [`Refusal::StringLength`];
+/// * 2, [`Refusal::Threshold`];
+/// * 4, [`Refusal::InputLength`]: a server's seeds and public shares disagree in count, a public share is not whole, or the servers' counts differ;
+/// * 5, [`Refusal::TooManyReports`];
+/// * 6, [`Refusal::GroupNumber`]: in any public share;
+/// * 7, [`Refusal::SpareBits`]: in any public share;
+/// * 8, [`Refusal::PublicSharesDiffer`];
+/// * 11, [`Refusal::Space`]: an area has too few bytes; every byte of the record area becomes zero, and the list area is unchanged.
+pub fn search_into(
+    n: u64,
+    t: u64,
+    expander: Expander,
+    zero: Reports<'_>,
+    one: Reports<'_>,
+    record: &mut [u8],
+    list: &mut [u8],
+) -> Result<Found<usize>, Refusal> {
+    let reply = tally_sys::search(
+        n,
+        t,
+        expander.number(),
+        zero.seeds.as_flattened(),
+        zero.public_shares,
+        one.seeds.as_flattened(),
+        one.public_shares,
+        record,
+        list,
+    );
+    Ok(Found {
+        record: accepted(reply.number, reply.record_length, record.len())?,
+        list: accepted(reply.number, reply.list_length, list.len())?,
+    })
+}
