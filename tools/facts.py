@@ -2,6 +2,7 @@
 """facts.py: after `rt ci`, that each must-fail edit was refused because a fact no longer holds: the first error of its log is not that a name, a field
 or a step of the proof is missing. Prints the others, and then its status is 1."""
 import glob
+import os
 import re
 import sys
 
@@ -18,10 +19,11 @@ def first_error(path):
 
 def main():
     faults = []
-    logs, edits = sorted(glob.glob("target/must-fail/*/*/.log")), glob.glob("crates/*/must-fail/*.edit")
-    if len(logs) != len(edits):
-        faults.append("%d logs for %d edits" % (len(logs), len(edits)))
-    for path in logs:
+    for edit in sorted(glob.glob("crates/*/must-fail/*.edit")):
+        path = "target/must-fail/%s/%s/.log" % (edit.split("/")[1], edit.split("/")[3][:-5])
+        if not os.path.isfile(path):
+            faults.append("%s: it has no log" % edit)
+            continue
         error = first_error(path)
         if not error or MISSING.search(error) or "is not in scope: add" in open(path).read():
             faults.append("%s: %s" % ("/".join(path.split("/")[2:4]), error[-300:] or "no error in its log"))
