@@ -24,7 +24,7 @@
 //       1 | The string length n is not from 1 to 256.
 //       2 | The threshold t is not from 1 to 65,535.
 //       3 | The expander is not 1 or 2.
-//       4 | A lent input has the wrong length, or seeds and public shares disagree in count.
+//       4 | A lent input has the wrong length, seeds and public shares disagree in count, or the two servers' counts differ.
 //       5 | There are more than 65,535 reports.
 //       6 | A group number, in a public share or in a share, is p or more.
 //       7 | Spare bits are set in a string or in a public share.
@@ -92,7 +92,7 @@ static inline const char *tally_refusal_text(uint64_t number)
     case TALLY_REFUSED_EXPANDER:
         return "The expander is not 1 or 2.";
     case TALLY_REFUSED_INPUT_LENGTH:
-        return "A lent input has the wrong length, or seeds and public shares disagree in count.";
+        return "A lent input has the wrong length, seeds and public shares disagree in count, or the two servers' counts differ.";
     case TALLY_REFUSED_TOO_MANY_REPORTS:
         return "There are more than 65,535 reports.";
     case TALLY_REFUSED_GROUP_NUMBER:
@@ -102,7 +102,7 @@ static inline const char *tally_refusal_text(uint64_t number)
     case TALLY_REFUSED_PUBLIC_SHARES_DIFFER:
         return "The two servers' public shares differ.";
     case TALLY_REFUSED_QUERY:
-        return "The query is not as laid out, or is outside its limits.";
+        return "The query is not as laid out, is outside its limits, or its prefixes are longer than n.";
     case TALLY_REFUSED_EXAM_TEXT:
         return "The exam text is not as laid out.";
     case TALLY_REFUSED_SPACE:

@@ -26,7 +26,7 @@ pub enum Refusal {
     /// 3: the expander is not 1 or 2; only [`Expander::try_from`](crate::Expander) and [`exam`](crate::exam()) meet it, since the other calls
     /// take an `Expander`.
     Expander,
-    /// 4: a lent input has the wrong length, or seeds and public shares disagree in count.
+    /// 4: a lent input has the wrong length, seeds and public shares disagree in count, or the two servers' counts differ.
     InputLength,
     /// 5: there are more than 65,535 reports.
     TooManyReports,
@@ -96,7 +96,7 @@ impl fmt::Display for Refusal {
             Refusal::Threshold => "the threshold t is not from 1 to 65,535",
             Refusal::Expander => "the expander is not 1 or 2",
             Refusal::InputLength => {
-                "a lent input has the wrong length, or seeds and public shares disagree in count"
+                "a lent input has the wrong length, seeds and public shares disagree in count, or the two servers' counts differ"
             }
             Refusal::TooManyReports => "there are more than 65,535 reports",
             Refusal::GroupNumber => "a group number is p or more",
