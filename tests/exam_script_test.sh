@@ -155,6 +155,22 @@ echo hello | "$here/exam" >&- 2>"$work/err" || got=$?
 for _ in $(seq 50); do [ -s "$work/status" ] && break; sleep 0.1; done
 [ "$(cat "$work/status")" -eq 1 ] && [ -s "$work/err" ] || fault "status $(cat "$work/status") into a closed pipe: $(cat "$work/err")"
 
+got=0
+"$here/exam" <&- >"$work/out" 2>"$work/err" || got=$?
+[ "$got" -eq 1 ] && grep -q 'standard input is closed' "$work/err" || fault "status $got with standard input closed: $(cat "$work/err")"
+got=0
+"$here/exam" --explain <"$work" >"$work/out" 2>"$work/err" || got=$?
+[ "$got" -eq 1 ] && grep -q 'standard input is a folder' "$work/err" || fault "status $got for a folder: $(cat "$work/err")"
+for option in --help --version; do
+    got=0
+    "$here/exam" $option >&- 2>"$work/err" || got=$?
+    [ "$got" -eq 1 ] || fault "status $got for $option with standard output closed"
+done
+echo hello >"$work/a"
+{ { sleep 0.5; "$here/exam" "$work/a" "$work/a" "$work/a" 2>"$work/err"; echo $? >"$work/many"; } | true; } || true
+for _ in $(seq 50); do [ -s "$work/many" ] && break; sleep 0.1; done
+[ "$(cat "$work/many")" -eq 1 ] && [ -s "$work/err" ] || fault "status $(cat "$work/many") for several files into a closed pipe"
+
 # options and files
 tree options
 expect 0 '' 'usage: exam' --help

@@ -3,6 +3,7 @@
 
 With --run it first runs the program on the text, passes on all that it writes, and explains only a text that the program refuses with 10.
 It is not proved, and decides nothing: the program's answer stands, whatever is said here."""
+import os
 import subprocess
 import sys
 
@@ -115,4 +116,7 @@ if __name__ == "__main__":
         main()
     except BrokenPipeError:
         sys.stderr.write("exam: standard output was closed before the answer was written\n")
-        sys.exit(1)
+        os._exit(1)
+    except OSError:
+        sys.stderr.write("exam: standard output cannot be written\n")
+        os._exit(1)
