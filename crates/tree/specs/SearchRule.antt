@@ -50,7 +50,7 @@ headingLength = 0
 
 -- A search for strings of n bits with the totals T; `enough` tells whether a total is at least the threshold.
 module _ (enough : ℕ → Bool) (T : Bits → ℕ) where
-  -- kept: a prefix whose total enough the threshold
+  -- kept: a prefix whose total is at least the threshold
   abbrev pub isKept : Bits → Bool
   isKept q = enough (T q)
 
