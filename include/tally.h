@@ -3,7 +3,8 @@
 // An installation makes the public share of its string with tally_key and gives each server one of its two seeds and the public
 // share. For a query each server makes its share with tally_share; where many machines share a server's work, each makes that of its own
 // reports, and tally_add adds them. A collector turns two shares into the next query or the list with
-// tally_combine. tally_search does the whole search where one program holds both servers' reports. tally_exam does all of it for an exam text.
+// tally_combine. tally_search does the whole search where one program holds both servers' reports. tally_exam does all of it for an exam text,
+// and tally_respond writes that text's whole output, refusals too.
 //
 // What every call does:
 // - It reads and writes only what it is lent: each area is a pointer and a length in bytes.
@@ -14,7 +15,7 @@
 // - It returns the lowest number of the table below that applies, but 10 before any other, with lengths 0, and every lent byte is then
 //   unchanged; with one exception: when tally_search refuses with 11, every byte of the record area becomes zero.
 // - It takes stack for each bit of n: a search with n = 256 was measured at 194 KiB on x86-64, so a thread should have 256 KiB or more;
-//   tally_exam ran in 128 KiB.
+//   tally_exam and tally_respond ran in 128 KiB.
 // - The archive is not instrumented: a caller's sanitizer sees the caller's own reads and writes, and the library's where they go through a
 //   memcpy or memset that the sanitizer has replaced, but no others inside a call, and one that looks for bytes never written may take what a
 //   call wrote or returned for such.
@@ -30,7 +31,7 @@
 //       7 | Spare bits are set in a string or in a public share.
 //       8 | The two servers' public shares differ.
 //       9 | The query is not as laid out below, or is outside its limits, or its prefixes are longer than n.
-//      10 | The exam text is not as laid out below; only tally_exam returns it.
+//      10 | The exam text is not as laid out below; only tally_exam returns it, and tally_respond writes it as text.
 //      11 | What is to be written would not fit the lent space, or a next query would pass 131,070 prefixes.
 //
 // How bytes are laid out:
@@ -48,6 +49,7 @@
 //   has at most 4,096 bytes.
 // - The answer to an exam text is a line for each queried prefix, its bits and its decimal total with a space between, in record order; then a
 //   line `heavy` and the string, with a space between, for each string of the list. Each line ends in a newline.
+// - The whole output for an exam text is its answer, or where 10, 1, 2 or 3 applies the one line `refused` and the number, with a space between.
 
 #ifndef TALLY_H
 #define TALLY_H
@@ -195,8 +197,8 @@ static inline size_t tally_list_space(uint64_t n, uint64_t t, uint64_t reports)
     return (size_t)(reports / t) * TALLY_PACKED_LENGTH(n);
 }
 
-// Space that is enough for the answer to every exam text: 64 lines of k + 4 bytes for each prefix length k from 1 to 32, and 32 heavy strings
-// in lines of 39 bytes.
+// Space that is enough for the answer to every exam text, and for its whole output: 64 lines of k + 4 bytes for each prefix length k from 1
+// to 32, and 32 heavy strings in lines of 39 bytes.
 #define TALLY_EXAM_SPACE 43232
 
 // ---- calls
@@ -299,6 +301,13 @@ tally_found tally_search(uint64_t n, uint64_t t, uint64_t expander,
 // Refuses with 10, judged first; 1, n is 0; 2; 3; 11, out is too small for the whole answer.
 tally_reply tally_exam(const uint8_t *text, size_t text_length,
                        uint8_t *out, size_t out_length);
+
+// Writes the whole output for an exam text: what tally_exam answers, or the line of its refusal with 10, 1, 2 or 3.
+// Reads: the text, which need not end in a zero byte.
+// Writes: the output into out, without a zero byte at its end. TALLY_EXAM_SPACE bytes are always enough; every output has at least 8.
+// Refuses with 11 alone, out is too small for the whole output.
+tally_reply tally_respond(const uint8_t *text, size_t text_length,
+                          uint8_t *out, size_t out_length);
 
 #ifdef __cplusplus
 }

@@ -1,8 +1,8 @@
-//! The answer to an exam text.
+//! The answer to an exam text, and its whole output.
 
 use crate::{accepted, written, Refusal};
 
-/// Space that is enough for the answer to every exam text: 64 lines for each of 32 prefix lengths, and 32 heavy strings.
+/// Space that is enough for the answer to every exam text, and for its whole output: 64 lines for each of 32 prefix lengths, and 32 heavy strings.
 ///
 /// ```
 /// let lines: usize = (1..=32).map(|bits| 64 * (bits + 4)).sum();
@@ -59,5 +59,42 @@ pub fn exam(text: &[u8]) -> Result<Vec<u8>, Refusal> {
 /// * 11, [`Refusal::Space`]: `out` is too small for the whole answer.
 pub fn exam_into(text: &[u8], out: &mut [u8]) -> Result<usize, Refusal> {
     let reply = tally_sys::exam(text, out);
+    accepted(reply.number, reply.length, out.len())
+}
+
+/// The whole output for an exam text, as the exam program prints it: the answer, as [`exam`](exam()) gives it, or where the text is refused with
+/// 10, 1, 2 or 3 the one line `refused` and that number.
+///
+/// ```
+/// use tally::{respond, Refusal};
+///
+/// assert_eq!(respond(b"1 1 0\n")?, b"0 0\n1 0\n");
+/// assert_eq!(respond(b"1 1 1\n")?, b"refused 10\n");
+/// # Ok::<(), Refusal>(())
+/// ```
+///
+/// # Errors
+///
+/// None of the proved library, since [`EXAM_SPACE`] bytes are always enough; [`Refusal::Unknown`] where another is linked.
+pub fn respond(text: &[u8]) -> Result<Vec<u8>, Refusal> {
+    written(EXAM_SPACE, |out| respond_into(text, out))
+}
+
+/// Writes the whole output for an exam text into `out`, and returns how many bytes that is; [`EXAM_SPACE`] bytes are enough.
+///
+/// ```
+/// use tally::{respond_into, Refusal};
+///
+/// let mut out = [0; 10];
+/// assert_eq!(respond_into(b"0 1 0\n", &mut out)?, 10);
+/// assert_eq!(&out, b"refused 1\n");
+/// # Ok::<(), Refusal>(())
+/// ```
+///
+/// # Errors
+///
+/// * 11, [`Refusal::Space`]: `out` is too small for the whole output.
+pub fn respond_into(text: &[u8], out: &mut [u8]) -> Result<usize, Refusal> {
+    let reply = tally_sys::respond(text, out);
     accepted(reply.number, reply.length, out.len())
 }

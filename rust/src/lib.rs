@@ -4,7 +4,7 @@
 //! a query each server makes its [`share`]; where many machines share a server's work, each makes that of its own reports, and [`add_shares`]
 //! adds them. A collector [`combine`]s two shares into the next query, or at last into the list of strings that at least t installations hold;
 //! [`Collector`] plays that loop, and names the prefix where totals do not add up. [`search`] does all of it where one program holds both
-//! servers' reports. [`exam`](exam()) does it for an exam text.
+//! servers' reports. [`exam`](exam()) does it for an exam text, and [`respond`] gives that text's whole output, refusals too.
 //!
 //! Each call has two forms. One returns its bytes; the other, whose name ends in `_into`, writes into lent space and returns how many bytes it
 //! wrote; bytes past them are unchanged. [`public_share_length`], [`share_length`], [`answer_space`], [`record_space`],
@@ -79,7 +79,7 @@ mod views;
 pub use bit_string::BitString;
 pub use collector::{Collector, CollectorError};
 pub use combining::{combine, combine_into};
-pub use exam::{exam, exam_into, EXAM_SPACE};
+pub use exam::{exam, exam_into, respond, respond_into, EXAM_SPACE};
 pub use keys::{block, block_into, make_key, make_key_into};
 pub use public_share::{Correction, PublicShare};
 pub use read::{digits, levels, prefix_bits, prefixes, strings, totals, Level};

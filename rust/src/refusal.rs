@@ -38,7 +38,8 @@ pub enum Refusal {
     PublicSharesDiffer,
     /// 9: the query is not as laid out, is outside its limits, or its prefixes are longer than n.
     Query,
-    /// 10: the exam text is not as laid out; only [`exam`](crate::exam()) and [`exam_into`](crate::exam_into) meet it.
+    /// 10: the exam text is not as laid out; only [`exam`](crate::exam()) and [`exam_into`](crate::exam_into) meet it, and [`respond`](crate::respond)
+    /// writes it as text.
     ExamText,
     /// 11: what is to be written would not fit the lent space, or a next query would pass 131,070 prefixes.
     Space,

@@ -1,6 +1,6 @@
 //! Exam texts through the crate: document 01's examples, every cause of refusal, and the largest answer.
 
-use tally::{exam, exam_into, Refusal, EXAM_SPACE};
+use tally::{exam, exam_into, respond, respond_into, Refusal, EXAM_SPACE};
 
 const SEEDS: &str = "000102030405060708090a0b0c0d0e0f ffeeddccbbaa99887766554433221100";
 
@@ -88,6 +88,30 @@ fn refusal_11_space() {
     let length = exam_into(text.as_bytes(), &mut out[..D.len()]).unwrap();
     assert_eq!((length, &out[..length]), (D.len(), D.as_bytes()));
     assert_eq!(out[length..], [7; 3]);
+}
+
+#[test]
+fn the_whole_output_is_the_answer_or_the_line_of_the_refusal() {
+    let good = text("2 2 3", &["01", "01", "11"]);
+    for (text, output) in [
+        (good.as_str(), D),
+        ("", "refused 10\n"),
+        ("0 0 0 0\n\n", "refused 10\n"),
+        ("0 0 0 0\n", "refused 1\n"),
+        ("1 0 0 0\n", "refused 2\n"),
+        ("1 1 0 0\n", "refused 3\n"),
+    ] {
+        assert_eq!(respond(text.as_bytes()).unwrap(), output.as_bytes());
+        let mut out = [7; 30];
+        for space in [0, 1, output.len() - 1] {
+            let refused = respond_into(text.as_bytes(), &mut out[..space]);
+            assert_eq!(refused, Err(Refusal::Space));
+            assert_eq!(out, [7; 30]);
+        }
+        let length = respond_into(text.as_bytes(), &mut out[..output.len()]).unwrap();
+        assert_eq!(&out[..length], output.as_bytes());
+        assert_eq!(out[length..], [7; 30][length..]);
+    }
 }
 
 #[test]

@@ -100,6 +100,6 @@ fn the_structs_agree() {
 #[test]
 fn the_functions_agree() {
     let declared = rust_functions(&plain(DECLARED));
-    assert_eq!(declared.len(), 7);
+    assert_eq!(declared.len(), 8);
     assert_eq!(c_functions(&plain(HEADER)), declared);
 }

@@ -31,6 +31,22 @@ pub fn exam(text: &[u8]) -> Vec<u8> {
     out
 }
 
+/// Writes the whole output for an exam text, or refuses with 11.
+pub fn respond_into(text: &[u8], out: &mut [u8]) -> Reply {
+    let output = exam(text);
+    if output.len() > out.len() {
+        return Reply {
+            number: 11,
+            length: 0,
+        };
+    }
+    out[..output.len()].copy_from_slice(&output);
+    Reply {
+        number: 0,
+        length: output.len() as u64,
+    }
+}
+
 /// Writes the answer to an exam text: 10 is judged first, then 1, 2 and 3, and 11 last.
 pub fn exam_into(text: &[u8], out: &mut [u8]) -> Reply {
     let outcome = match read(text) {

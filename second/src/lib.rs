@@ -20,7 +20,7 @@ pub mod share;
 
 pub use calls::{add_shares, block, key, share};
 pub use combine::combine;
-pub use exam::{exam, exam_into};
+pub use exam::{exam, exam_into, respond_into};
 pub use search::search;
 
 /// Answer of a call that writes one space.

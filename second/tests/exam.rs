@@ -1,7 +1,7 @@
 //! The exam program's texts and refusals.
 
 use second::exam::MOST_ANSWER;
-use second::{exam, exam_into, Reply};
+use second::{exam, exam_into, respond_into, Reply};
 
 const S: &str = "000102030405060708090a0b0c0d0e0f ffeeddccbbaa99887766554433221100";
 
@@ -132,6 +132,32 @@ fn space_for_the_answer() {
     let reply = exam_into(text.as_bytes(), &mut out[..27]);
     assert_eq!((reply.number, reply.length), (0, 27));
     assert_eq!((&out[..27], &out[27..]), (&answer[..], &[7u8; 3][..]));
+}
+
+#[test]
+fn space_for_the_whole_output() {
+    let good = format!("2 2 3\n01 {S}\n01 {S}\n11 {S}\n");
+    for text in [
+        good.as_str(),
+        "1 1 1\n",
+        "0 0 0 0\n",
+        "1 0 0\n",
+        "1 1 0 0\n",
+    ] {
+        let output = exam(text.as_bytes());
+        let mut out = [7u8; 30];
+        for space in [0, output.len() - 1] {
+            let refused = Reply {
+                number: 11,
+                length: 0,
+            };
+            assert_eq!(respond_into(text.as_bytes(), &mut out[..space]), refused);
+            assert_eq!(out, [7; 30]);
+        }
+        let reply = respond_into(text.as_bytes(), &mut out[..output.len()]);
+        assert_eq!((reply.number, reply.length), (0, output.len() as u64));
+        assert_eq!(out[..output.len()], output);
+    }
 }
 
 #[test]

@@ -7,7 +7,7 @@ ghost use mathlib.Core.Path.{_≡_};
 ghost use Rattle.calls.specs.Outcome.{left};
 ghost use Rattle.capi.specs.Block.{blockExit};
 ghost use Rattle.capi.specs.Combined.{inC, combineInC};
-ghost use Rattle.exam_answering.specs.Exam.{examExit};
+ghost use Rattle.exam_answering.specs.Exam.{examExit, respondExit};
 ghost use Rattle.keymaker.specs.Key.{keyExit};
 ghost use Rattle.idpf.specs.Share.{shareExit};
 ghost use Rattle.search.specs.Search.{lent, searchEnding, returned};
@@ -169,4 +169,12 @@ pub extern "C" fn tally_exam(text: &[u8], out: &mut [u8]) -> Reply
     ensures { λ r. ⌜ left r (now (out .exit)) ≡ examExit (now (text .entry)) (now (out .entry)) ⌝ }
 {
     exam_answering::answer(text, out)
+}
+
+// Writes the whole output for an exam text: the answer, or the line of the refusal; refuses with 11 where it does not fit.
+#[no_mangle]
+pub extern "C" fn tally_respond(text: &[u8], out: &mut [u8]) -> Reply
+    ensures { λ r. ⌜ left r (now (out .exit)) ≡ respondExit (now (text .entry)) (now (out .entry)) ⌝ }
+{
+    exam_answering::respond(text, out)
 }

@@ -143,8 +143,8 @@ into out kind o =
     let x = exit o out in
     record { number = x .number; areas = record { entry = out; exit = x .area; returned = x .length; isRecord = false } ∷ []; kind = kind }
 
--- what the contracts say of number, lengths and areas: `keyExit`, `shareExit`, `addExit`, `combineExit`, `searchEnding`, `examExit` and `blockExit` are
--- these, part by part: `exit` of the same outcomes, and the search's own
+-- what the contracts say of number, lengths and areas: `keyExit`, `shareExit`, `addExit`, `combineExit`, `searchEnding`, `examExit`, `respondExit` and
+-- `blockExit` are these, part by part: `exit` of the same outcomes, and the search's own
 abbrev pub result : Call → Result
 result (makeKey l) = into (l .out) none (keyOutcome (l .n) (l .expander) (l .string) (l .seed0) (l .seed1) (length (l .out)))
 result (serverShare l) = into (l .out) none (shareOutcome (l .n) (l .expander) (l .server) (l .seeds) (l .publicShares) (l .query) (length (l .out)))

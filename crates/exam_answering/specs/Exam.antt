@@ -71,3 +71,7 @@ output bytes = outputFor (examOutcome bytes answerSpace)
 
 unfoldable pub respondOutcome : List ℕ → ℕ → Outcome
 respondOutcome bytes room = writtenIn (output bytes) room
+
+-- what the call returns, and the space that it is lent, at exit
+abbrev pub respondExit : List ℕ → List ℕ → Exit
+respondExit bytes area = exit (respondOutcome bytes (length area)) area

@@ -4,9 +4,8 @@ use calls::Reply;
 use exam_lines::refused_line;
 use exam_reading::read_sheet;
 ghost use mathlib.Core.Path.{_≡_};
-ghost use lib.ListN.{length};
-ghost use Rattle.calls.specs.Outcome.{exit, left};
-ghost use Rattle.exam_answering.specs.Exam.{examExit, respondOutcome};
+ghost use Rattle.calls.specs.Outcome.{left};
+ghost use Rattle.exam_answering.specs.Exam.{examExit, respondExit};
 
 mod printing;
 mod solving;
@@ -47,7 +46,7 @@ pub fn answer(text: &[u8], out: &mut [u8]) -> Reply
 
 // Writes the whole output for an exam text: the answer, or the line of the refusal; refuses with 11 where it does not fit.
 pub fn respond(text: &[u8], out: &mut [u8]) -> Reply
-    ensures { λ r. ⌜ left r (now (out .exit)) ≡ exit (respondOutcome (now (text .entry)) (length (now (out .entry)))) (now (out .entry)) ⌝ }
+    ensures { λ r. ⌜ left r (now (out .exit)) ≡ respondExit (now (text .entry)) (now (out .entry)) ⌝ }
 {
     let reply = answer(text, out);
     if reply.number == 0 {

@@ -119,6 +119,13 @@ mod library {
             out: *mut u8,
             out_length: usize,
         ) -> Reply;
+
+        pub fn tally_respond(
+            text: *const u8,
+            text_length: usize,
+            out: *mut u8,
+            out_length: usize,
+        ) -> Reply;
     }
 }
 
@@ -278,4 +285,11 @@ pub fn search(
 pub fn exam(text: &[u8], out: &mut [u8]) -> Reply {
     // SAFETY: each pointer and length come from one live slice, and `out` is borrowed mutably.
     unsafe { library::tally_exam(text.as_ptr(), text.len(), out.as_mut_ptr(), out.len()) }
+}
+
+/// The whole output for an exam text, the answer or the line of the refusal, into `out`.
+#[inline]
+pub fn respond(text: &[u8], out: &mut [u8]) -> Reply {
+    // SAFETY: each pointer and length come from one live slice, and `out` is borrowed mutably.
+    unsafe { library::tally_respond(text.as_ptr(), text.len(), out.as_mut_ptr(), out.len()) }
 }

@@ -6,7 +6,10 @@ pub const NAME: &str = "the second program itself";
 pub const NAME: &str = "the library libcapi.a";
 
 #[cfg(not(feature = "library"))]
-pub use second::{add_shares as add, block, combine, exam_into as exam, key, search, share};
+pub use second::{
+    add_shares as add, block, combine, exam_into as exam, key, respond_into as respond, search,
+    share,
+};
 
 /// The library's calls, each for a feature, with the second program's replies.
 #[cfg(feature = "library")]
@@ -33,4 +36,5 @@ calls! {
     "search" search(n: u64, t: u64, expander: u64, seeds0: &[u8], public0: &[u8], seeds1: &[u8], public1: &[u8], record: &mut [u8],
         list: &mut [u8]) -> Found { number, record_length, list_length }
     "exam" exam(text: &[u8], out: &mut [u8]) -> Reply { number, length }
+    "exam" respond(text: &[u8], out: &mut [u8]) -> Reply { number, length }
 }

@@ -1,5 +1,6 @@
 //! Comparison of the exam: every change of one byte in some sheets, the fixed texts of
 //! `exam_cases`, and random sheets, whole and damaged; number, length, all of `out` and the text.
+//! For each of these texts the whole output, in just enough space and in one byte less.
 
 use crate::exam_cases;
 use compare::calls;
@@ -32,8 +33,13 @@ pub fn run(start: u64, count: usize, tally: &mut Tally) {
     exam_cases::each(|name, number, answer, text| {
         for (room, wanted) in rooms(number, answer.len()) {
             let plan = Plan::fixed(name, &wanted);
-            let theirs = compare(&mut rng, &plan, text, room, tally);
+            let theirs = compare_exam(&mut rng, &plan, text, room, tally);
             answered(name, &theirs, answer, tally);
+        }
+        let output = compare_respond(&mut rng, &Plan::fixed(name, &[]), text, tally);
+        let line = format!("refused {number}\n").into_bytes();
+        if output != if number == 0 { answer } else { &line } {
+            tally.fault(&format!("respond, {name}: another output"));
         }
     });
     let names = DAMAGES.map(|(name, _)| name);
@@ -220,20 +226,63 @@ fn answered(name: &str, theirs: &Outcome, answer: &[u8], tally: &mut Tally) {
     }
 }
 
-/// Compares one call and gives the library's outcome.
+/// A call that takes a text and one space.
+type Exam = fn(&[u8], &mut [u8]) -> second::Reply;
+
+/// Compares the exam in this room, and the whole output; gives the library's outcome of the exam.
 fn compare(rng: &mut Rng, plan: &Plan, text: &[u8], room: usize, tally: &mut Tally) -> Outcome {
+    compare_respond(rng, plan, text, tally);
+    compare_exam(rng, plan, text, room, tally)
+}
+
+fn compare_exam(
+    rng: &mut Rng,
+    plan: &Plan,
+    text: &[u8],
+    room: usize,
+    tally: &mut Tally,
+) -> Outcome {
+    let both = [second::exam_into as Exam, calls::exam];
+    compare_call("exam", both, rng, plan, text, room, tally)
+}
+
+/// Compares the whole output in just enough space and in one byte less, and gives it.
+fn compare_respond(rng: &mut Rng, plan: &Plan, text: &[u8], tally: &mut Tally) -> Vec<u8> {
+    let output = second::exam(text);
+    let size = output.len();
+    for (room, wanted) in [(size, [0, size as u64]), (size - 1, [11, 0])] {
+        let plan = Plan {
+            kind: plan.kind,
+            damages: plan.damages.clone(),
+            wanted: wanted.to_vec(),
+        };
+        let both = [second::respond_into as Exam, calls::respond];
+        compare_call("respond", both, rng, &plan, text, room, tally);
+    }
+    output
+}
+
+/// Compares one call and gives the library's outcome.
+fn compare_call(
+    name: &'static str,
+    both: [Exam; 2],
+    rng: &mut Rng,
+    plan: &Plan,
+    text: &[u8],
+    room: usize,
+    tally: &mut Tally,
+) -> Outcome {
     let inputs = text[..text.len().min(400)].escape_ascii();
-    tally.before("exam", plan, &inputs);
+    tally.before(name, plan, &inputs);
     let salt = rng.number();
-    type Exam = fn(&[u8], &mut [u8]) -> second::Reply;
-    let [ours, theirs] = [second::exam_into as Exam, calls::exam as Exam].map(|exam| {
+    let [ours, theirs] = both.map(|call| {
         let lent = black_box(Space::holding(text));
         let mut out = Space::new(room, salt);
-        let reply = exam(lent.first(u64::MAX), out.lent());
+        let reply = call(lent.first(u64::MAX), out.lent());
         Outcome {
             numbers: vec![reply.number, reply.length],
             spaces: black_box(vec![lent, out]),
         }
     });
-    tally.judge("exam", plan, ours, theirs, &inputs)
+    tally.judge(name, plan, ours, theirs, &inputs)
 }

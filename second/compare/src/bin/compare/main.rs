@@ -32,7 +32,7 @@ use compare::{calls, tally};
 use std::process::ExitCode;
 
 /// The numbers each call must have been seen to return.
-const NUMBERS: [(&str, bool, &[u64]); 7] = [
+const NUMBERS: [(&str, bool, &[u64]); 8] = [
     ("block", cfg!(feature = "block"), &[0, 3, 4, 11]),
     ("key", cfg!(feature = "keys"), &[0, 1, 3, 4, 7, 11]),
     (
@@ -52,6 +52,7 @@ const NUMBERS: [(&str, bool, &[u64]); 7] = [
         &[0, 1, 2, 3, 4, 5, 6, 7, 8, 11],
     ),
     ("exam", cfg!(feature = "exam"), &[0, 1, 2, 3, 10, 11]),
+    ("respond", cfg!(feature = "exam"), &[0, 11]),
 ];
 
 fn main() -> ExitCode {

@@ -140,4 +140,18 @@ impl Fuzz<'_> {
         };
         self.judged.call(&mut self.rng, &call, [text], [room], make);
     }
+
+    #[cfg(feature = "exam")]
+    pub fn respond(&mut self, text: &[u8], room: usize) {
+        let call = Call {
+            name: "respond",
+            may: &[0, 11],
+            fields: &[],
+        };
+        let make = |[text]: [&[u8]; 1], [out]: [&mut [u8]; 1]| {
+            let reply = calls::respond(text, out);
+            (reply.number, [reply.length])
+        };
+        self.judged.call(&mut self.rng, &call, [text], [room], make);
+    }
 }

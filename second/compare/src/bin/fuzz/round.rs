@@ -179,7 +179,7 @@ impl Fuzz<'_> {
         self.search(fields, inputs, [room, list_room]);
     }
 
-    /// Every call but block and exam with bytes and lengths that have nothing to do with each other.
+    /// Every call but block and those of the exam with bytes and lengths that have nothing to do with each other.
     fn wild(&mut self) {
         let rng = &mut self.rng;
         let (n, t) = (any_number(rng), any_number(rng));
@@ -213,6 +213,7 @@ impl Fuzz<'_> {
         let size = sheet.answer().len();
         let (text, room) = (sheet.text(), length(rng, size));
         self.exam(&text, room);
+        self.respond(&text, room);
         let rng = &mut self.rng;
         match rng.below(12) {
             0 => sheet.t = rng.pick(&[0, 65_536, 99_999]),
@@ -229,6 +230,7 @@ impl Fuzz<'_> {
         }
         let room = length(rng, size);
         self.exam(&text, room);
+        self.respond(&text, room);
         let rng = &mut self.rng;
         let text = if rng.coin() {
             wild_text(rng)
@@ -237,5 +239,7 @@ impl Fuzz<'_> {
         };
         let room = length(rng, 8);
         self.exam(&text, room);
+        let room = length(&mut self.rng, "refused 10\n".len());
+        self.respond(&text, room);
     }
 }
