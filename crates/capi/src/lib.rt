@@ -12,6 +12,7 @@ ghost use Rattle.keymaker.specs.Key.{keyExit};
 ghost use Rattle.idpf.specs.Share.{shareExit};
 ghost use Rattle.search.specs.Search.{lent, searchEnding, returned};
 ghost use Rattle.shares.specs.Add.{addExit};
+ghost use Rattle.space.specs.SearchSpace.{namedRecordSpace, namedListSpace};
 
 // Writes block j of a seed of 16 bytes; refuses with 3, 4 or 11.
 #[no_mangle]
@@ -177,4 +178,20 @@ pub extern "C" fn tally_respond(text: &[u8], out: &mut [u8]) -> Reply
     ensures { λ r. ⌜ left r (now (out .exit)) ≡ respondExit (now (text .entry)) (now (out .entry)) ⌝ }
 {
     exam_answering::respond(text, out)
+}
+
+// Space that is enough for the record of a search over this many honest reports; 0 where an argument is outside its bounds.
+#[no_mangle]
+pub extern "C" fn tally_record_space(n: u64, t: u64, reports: u64) -> u64
+    ensures { λ r. ⌜ r ≡ namedRecordSpace n t reports ⌝ }
+{
+    space::record_space(n, t, reports)
+}
+
+// Space that is enough for the list of a search over this many honest reports; 0 where an argument is outside its bounds.
+#[no_mangle]
+pub extern "C" fn tally_list_space(n: u64, t: u64, reports: u64) -> u64
+    ensures { λ r. ⌜ r ≡ namedListSpace n t reports ⌝ }
+{
+    space::list_space(n, t, reports)
 }

@@ -32,6 +32,8 @@ use Rattle.query.proofs.Queries.{query-passes}
 use Rattle.tree.proofs.Kept as kept
 use Rattle.tree.proofs.Totals as strings
 use Rattle.tree.proofs.Demands.{honest-exact, honest-ascending, honest-once}
+use Rattle.space.specs.SearchSpace.{namedRecordSpace, namedListSpace}
+use Rattle.space.proofs.Within.{named-record, named-list}
 use Rattle.keymaker.specs.Key.{keyOutcome}
 use Rattle.report_sums.specs.Reports.{seedAt, allCount, sumWhere, lentShare, serverSum}
 use Rattle.idpf.specs.Share.{shareOutcome}
@@ -144,6 +146,17 @@ pub honest-accepted : (s : Lent) (xs : List Bits) → Honest s xs → 1 ≤ s .n
     → let C = length (countedStrings s xs) in
     recordSpace (s .n) (thresholdOf s) C ≤ length (s .recordArea) → listSpace (s .n) (thresholdOf s) C ≤ length (s .listArea) → Accepted s
 honest-accepted s xs honest from to least most known few room list = space-accepted s xs honest from to least most known few room list
+
+-- So is one with the space that `record_space` and `list_space` name for it.
+pub named-space-accepted : (s : Lent) (xs : List Bits) → Honest s xs → 1 ≤ s .n → s .n ≤ 256 → 1 ≤ thresholdOf s → thresholdOf s ≤ 65535
+    → isExpander (s .expander) ≡ true → length xs ≤ 65535
+    → let C = length (countedStrings s xs) in
+    namedRecordSpace (s .n) (thresholdOf s) C ≤ length (s .recordArea) → namedListSpace (s .n) (thresholdOf s) C ≤ length (s .listArea) → Accepted s
+named-space-accepted s xs honest from to least most known few room list =
+    let C = length (countedStrings s xs) in
+    honest-accepted s xs honest from to least most known few
+    (omega (arith, named-record (s .n) (thresholdOf s) C from to least most few, room))
+    (omega (arith, named-list (s .n) (thresholdOf s) C from to least most few, list))
 
 -- ---- the list
 

@@ -1,0 +1,37 @@
+-- `space::list_space` meets its contract.
+use Prim.Native.Nat.{_/_, _≤_}
+use native.Mathlib.Omega.{arith}
+use native.Mathlib.Nat.{div-le-self, mul-le-mul}
+use mathlib.Core.Path.{_≡_, sym, _∙_}
+use mathlib.Core.Bool.{false}
+use borrow.Author.Needs.{needs}
+use Rattle.tree.specs.Space.{listSpace}
+use Rattle.space.specs.SearchSpace.{outsideBounds}
+use Rattle.space.proofs.Within.{within}
+use Rattle.space.proofs.list_space.Statement.{statement}
+use Rattle.space.proofs.list_space.Tie as tie
+
+returns : tie.Need-returns
+returns c = rw (sym (c .before .outside-bounds .ensures) ∙ c .if1 .taken)
+
+-- no argument is outside its bounds
+clear : (c : tie.Else1) → let a = c .before .before .args in outsideBounds (a .n) (a .t) (a .reports) ≡ false
+clear c = sym (c .before .outside-bounds .ensures) ∙ c .if1 .left
+
+div-strings : tie.Need-div-strings
+div-strings c = let a = c .before .before .args in omega (arith, within (a .n) (a .t) (a .reports) (clear c))
+
+mul-result : tie.Need-mul-result
+mul-result c =
+    let a = c .before .before .before .args in
+    let k = within (a .n) (a .t) (a .reports) (clear (c .before)) in
+    let strings : a .reports / a .t ≤ 65535 = omega (arith, div-le-self (a .reports) (a .t), k) in
+    let bytes : c .packed-length .result ≤ 32 = omega (arith, k) in
+    omega (arith, mul-le-mul strings bytes)
+
+returns-2 : tie.Need-returns-2
+unfolding listSpace
+returns-2 c = rw (clear (c .before), c .packed-length .ensures)
+
+pub list-space-spec : {M : Type 1} → statement M
+list-space-spec = tie.close (tie.spec (λ c κs. search needs) returns div-strings (λ c κs. search needs) mul-result returns-2)
