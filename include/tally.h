@@ -147,7 +147,7 @@ static inline uint8_t *tally_empty(void)
 }
 #define TALLY_EMPTY tally_empty()
 
-// ---- lengths in bytes
+// ---- lengths in bytes: macros, since they give arrays their size; tally_record_space and tally_list_space, below, are calls of the library
 
 // A seed, a block, and a group number.
 #define TALLY_SEED_LENGTH 16
@@ -168,34 +168,6 @@ static inline uint8_t *tally_empty(void)
 
 // The first query of every search, `0` and `1`, as the initializer of an array of 8 bytes.
 #define TALLY_FIRST_QUERY {0x00, 0x00, 0x00, 0x00, 0x00, 0x02, 0x00, 0x80}
-
-// Space that is enough for the record of a search over honest reports: for each prefix length k from 1 to n, a heading of 6 bytes and
-// TALLY_PACKED_LENGTH(k) + 8 bytes for each prefix, of which there are 2 at length 1 and then at most min(2^k, 2 * floor(reports / t)), and
-// no heading where there are none. It is 0 where n, t or the number of reports is outside its bounds, which the search refuses.
-static inline size_t tally_record_space(uint64_t n, uint64_t t, uint64_t reports)
-{
-    size_t space = 0;
-    uint64_t k;
-    if (n < 1 || TALLY_BITS_MOST < n || t < 1 || TALLY_THRESHOLD_MOST < t || TALLY_REPORTS_MOST < reports)
-        return 0;
-    for (k = 1; k <= n; k++) {
-        uint64_t count = k == 1 ? 2 : 2 * (reports / t);
-        if (k < 17 && (UINT64_C(1) << k) < count)
-            count = UINT64_C(1) << k;
-        if (0 < count)
-            space += TALLY_QUERY_LENGTH(k, count) + TALLY_SHARE_LENGTH(count);
-    }
-    return space;
-}
-
-// Space that is enough for the list of a search over honest reports: floor(reports / t) packed strings; 0 where an argument is outside its
-// bounds.
-static inline size_t tally_list_space(uint64_t n, uint64_t t, uint64_t reports)
-{
-    if (n < 1 || TALLY_BITS_MOST < n || t < 1 || TALLY_THRESHOLD_MOST < t || TALLY_REPORTS_MOST < reports)
-        return 0;
-    return (size_t)(reports / t) * TALLY_PACKED_LENGTH(n);
-}
 
 // Space that is enough for the answer to every exam text, and for its whole output: 64 lines of k + 4 bytes for each prefix length k from 1
 // to 32, and 32 heavy strings in lines of 39 bytes.
@@ -276,6 +248,15 @@ tally_combine_reply tally_combine(uint64_t n, uint64_t t,
                                   const uint8_t *share0, size_t share0_length,
                                   const uint8_t *share1, size_t share1_length,
                                   uint8_t *out, size_t out_length);
+
+// Space that is enough for the record of a search over this many honest reports: for each prefix length k from 1 to n, a heading of 6 bytes
+// and TALLY_PACKED_LENGTH(k) + 8 bytes for each prefix, of which there are 2 at length 1 and then at most min(2^k, 2 * floor(reports / t)),
+// and no heading where there are none. It is 0 where n, t or the number of reports is outside its bounds, which the search refuses.
+// It is a proved function of the library, as is tally_list_space: neither is lent anything, and neither refuses.
+uint64_t tally_record_space(uint64_t n, uint64_t t, uint64_t reports);
+
+// Space that is enough for the list of such a search: floor(reports / t) packed strings; 0 where an argument is outside its bounds.
+uint64_t tally_list_space(uint64_t n, uint64_t t, uint64_t reports);
 
 // Does the whole search: asks the first query, and then what combining answers, until the list is found or nothing is kept; the list is then
 // empty.

@@ -168,8 +168,8 @@ static void collect(const server *zero, const server *one, collected *into)
 // Whether the whole search on the same reports gives the same record and list.
 static bool search_agrees(const server *zero, const server *one, const collected *expected)
 {
-    size_t record_space = tally_record_space(N, T, REPORTS);
-    size_t list_space = tally_list_space(N, T, REPORTS);
+    size_t record_space = (size_t)tally_record_space(N, T, REPORTS);
+    size_t list_space = (size_t)tally_list_space(N, T, REPORTS);
     // One byte more, so that no pointer is null where the space is 0.
     uint8_t *record = malloc(record_space + 1);
     uint8_t *list = malloc(list_space + 1);

@@ -3,7 +3,7 @@
 //! Where an argument is outside its bounds the length is 0, since the call then refuses before it looks at the space.
 
 use crate::read::laid_out;
-use crate::{BITS_MOST, PREFIXES_MOST, REPORTS_MOST, THRESHOLD_MOST};
+use crate::{BITS_MOST, PREFIXES_MOST};
 
 /// How many bytes a packed string or prefix of that many bits takes.
 ///
@@ -70,12 +70,7 @@ pub fn answer_space(n: u64, query: &[u8]) -> usize {
     }
 }
 
-/// Whether n, t and the number of reports are within their bounds.
-fn within_bounds(n: u64, t: u64, reports: usize) -> bool {
-    (1..=BITS_MOST).contains(&n) && (1..=THRESHOLD_MOST).contains(&t) && reports <= REPORTS_MOST
-}
-
-/// Space that is enough for the record of a search over honest reports.
+/// Space that is enough for the record of a search over honest reports, as the proved library counts it.
 ///
 /// The first query has two prefixes; a later one has at most two for each of the ⌊reports ÷ t⌋ that can be kept, and never more than there
 /// are. A level takes a heading of 6 bytes, and for each prefix its packed bits and a total of 8 bytes. Ill-formed reports may need more.
@@ -84,31 +79,14 @@ fn within_bounds(n: u64, t: u64, reports: usize) -> bool {
 /// assert_eq!(tally::record_space(2, 2, 3), 48);
 /// ```
 pub fn record_space(n: u64, t: u64, reports: usize) -> usize {
-    if !within_bounds(n, t, reports) {
-        return 0;
-    }
-    let kept = reports / t as usize;
-    let level = |bits: u64| {
-        let there_are = if bits < 17 { 1 << bits } else { PREFIXES_MOST };
-        let prefixes = if bits == 1 {
-            2
-        } else {
-            there_are.min(2 * kept)
-        };
-        query_length(bits, prefixes) + 8 * prefixes
-    };
-    (1..=n).map(level).sum()
+    tally_sys::record_space(n, t, reports as u64) as usize
 }
 
-/// Space that is enough for the list of a search over honest reports: ⌊reports ÷ t⌋ packed strings.
+/// Space that is enough for the list of a search over honest reports, as the proved library counts it: ⌊reports ÷ t⌋ packed strings.
 ///
 /// ```
 /// assert_eq!(tally::list_space(16, 5, 12), 4);
 /// ```
 pub fn list_space(n: u64, t: u64, reports: usize) -> usize {
-    if within_bounds(n, t, reports) {
-        reports / t as usize * packed_length(n)
-    } else {
-        0
-    }
+    tally_sys::list_space(n, t, reports as u64) as usize
 }

@@ -60,7 +60,7 @@ fn c_structs(text: &str) -> Vec<Declared> {
 fn c_functions(text: &str) -> Vec<Declared> {
     let ends = text.split(';').map(str::trim);
     let functions = ends
-        .filter(|found| found.starts_with("tally_"))
+        .filter(|found| found.starts_with("tally_") || found.starts_with("uint64_t tally_"))
         .map(|found| {
             let (heading, parameters) = found.split_once('(').expect(found);
             let (returned, name) = heading.split_once(' ').expect(heading);
@@ -100,6 +100,6 @@ fn the_structs_agree() {
 #[test]
 fn the_functions_agree() {
     let declared = rust_functions(&plain(DECLARED));
-    assert_eq!(declared.len(), 8);
+    assert_eq!(declared.len(), 10);
     assert_eq!(c_functions(&plain(HEADER)), declared);
 }

@@ -246,6 +246,11 @@ fn space_is_as_defined() {
             for reports in [0, 1, 2, 3, 100, 32_768, 65_535] {
                 let expected = defined_space(n, t, reports);
                 assert_eq!(record_space(n, t, reports), expected);
+                let strings = reports / t as usize;
+                assert_eq!(
+                    list_space(n, t, reports),
+                    strings * (n as usize).div_ceil(8)
+                );
             }
         }
     }

@@ -17,11 +17,13 @@ pub mod query;
 pub mod rng;
 pub mod search;
 pub mod share;
+pub mod space;
 
 pub use calls::{add_shares, block, key, share};
 pub use combine::combine;
 pub use exam::{exam, exam_into, respond_into};
 pub use search::search;
+pub use space::{list_space, record_space};
 
 /// Answer of a call that writes one space.
 #[derive(Clone, Copy, Debug, PartialEq, Eq)]

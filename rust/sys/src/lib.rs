@@ -95,6 +95,10 @@ mod library {
             out_length: usize,
         ) -> CombineReply;
 
+        pub fn tally_record_space(n: u64, t: u64, reports: u64) -> u64;
+
+        pub fn tally_list_space(n: u64, t: u64, reports: u64) -> u64;
+
         pub fn tally_search(
             n: u64,
             t: u64,
@@ -242,6 +246,20 @@ pub fn combine(
             out.len(),
         )
     }
+}
+
+/// Space that is enough for the record of a search over this many honest reports; 0 where an argument is outside its bounds.
+#[inline]
+pub fn record_space(n: u64, t: u64, reports: u64) -> u64 {
+    // SAFETY: the call takes and returns numbers alone.
+    unsafe { library::tally_record_space(n, t, reports) }
+}
+
+/// Space that is enough for the list of a search over this many honest reports; 0 where an argument is outside its bounds.
+#[inline]
+pub fn list_space(n: u64, t: u64, reports: u64) -> u64 {
+    // SAFETY: the call takes and returns numbers alone.
+    unsafe { library::tally_list_space(n, t, reports) }
 }
 
 /// The record and the list of a whole search, into their areas.

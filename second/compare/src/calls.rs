@@ -7,9 +7,11 @@ pub const NAME: &str = "the library libcapi.a";
 
 #[cfg(not(feature = "library"))]
 pub use second::{
-    add_shares as add, block, combine, exam_into as exam, key, respond_into as respond, search,
-    share,
+    add_shares as add, block, combine, exam_into as exam, key, list_space, record_space,
+    respond_into as respond, search, share,
 };
+#[cfg(all(feature = "library", feature = "search"))]
+pub use tally_sys::{list_space, record_space};
 
 /// The library's calls, each for a feature, with the second program's replies.
 #[cfg(feature = "library")]

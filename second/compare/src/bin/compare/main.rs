@@ -27,12 +27,14 @@ mod search_demands;
 mod searches;
 #[cfg(feature = "keys")]
 mod shares;
+#[cfg(feature = "search")]
+mod spaces;
 
 use compare::{calls, tally};
 use std::process::ExitCode;
 
 /// The numbers each call must have been seen to return.
-const NUMBERS: [(&str, bool, &[u64]); 8] = [
+const NUMBERS: [(&str, bool, &[u64]); 10] = [
     ("block", cfg!(feature = "block"), &[0, 3, 4, 11]),
     ("key", cfg!(feature = "keys"), &[0, 1, 3, 4, 7, 11]),
     (
@@ -51,6 +53,8 @@ const NUMBERS: [(&str, bool, &[u64]); 8] = [
         cfg!(feature = "search"),
         &[0, 1, 2, 3, 4, 5, 6, 7, 8, 11],
     ),
+    ("record space", cfg!(feature = "search"), &[0]),
+    ("list space", cfg!(feature = "search"), &[0]),
     ("exam", cfg!(feature = "exam"), &[0, 1, 2, 3, 10, 11]),
     ("respond", cfg!(feature = "exam"), &[0, 11]),
 ];
@@ -90,6 +94,8 @@ fn main() -> ExitCode {
     combines::run(seed, count, &mut tally);
     #[cfg(feature = "search")]
     searches::run(seed, count, &mut tally);
+    #[cfg(feature = "search")]
+    spaces::run(seed, count, &mut tally);
     #[cfg(feature = "exam")]
     exams::run(seed, count, &mut tally);
     tally.print();

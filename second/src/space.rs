@@ -1,0 +1,33 @@
+//! Space that is enough for the record and the list of a search over honest reports.
+
+use crate::query::packed_size;
+
+/// The kept strings at most, or none where n, t or the reports are outside their bounds.
+fn kept(n: u64, t: u64, reports: u64) -> Option<u64> {
+    let within = (1..=256).contains(&n) && (1..=65_535).contains(&t) && reports <= 65_535;
+    within.then(|| reports / t)
+}
+
+/// The space of a record, or 0: each query of the longest search with its totals.
+pub fn record_space(n: u64, t: u64, reports: u64) -> u64 {
+    let Some(kept) = kept(n, t, reports) else {
+        return 0;
+    };
+    let mut space = 0;
+    for length in 1..=n {
+        let there_are = if length < 64 { 1 << length } else { u64::MAX };
+        let asked = match length {
+            1 => 2,
+            _ => there_are.min(2 * kept),
+        };
+        if asked > 0 {
+            space += 6 + asked * (packed_size(length as usize) as u64 + 8);
+        }
+    }
+    space
+}
+
+/// The space of a list, or 0.
+pub fn list_space(n: u64, t: u64, reports: u64) -> u64 {
+    kept(n, t, reports).map_or(0, |kept| kept * packed_size(n as usize) as u64)
+}
