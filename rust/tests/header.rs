@@ -1,7 +1,10 @@
 //! The C header and the Rust declarations say the same: the structs with their fields, and the functions with their parameters, in order.
 
 const HEADER: &str = include_str!("../../include/tally.h");
-const DECLARED: &str = include_str!("../sys/src/lib.rs");
+const DECLARED: &str = concat!(
+    include_str!("../sys/src/lib.rs"),
+    include_str!("../sys/src/library.rs")
+);
 
 /// A name, what it has in it, and for a function what it returns.
 type Declared = (String, Vec<String>, String);
