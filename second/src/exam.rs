@@ -1,6 +1,7 @@
 //! The exam program: from the text on standard input to the whole output.
 
 use crate::query::{pack, unpack, Query};
+use crate::text::{self, decimal, digits, report, Line};
 use crate::{field, judge, key, search, Reply};
 
 /// Bytes that are enough for every answer: 64 lines for each of 32 lengths, 32 heavy strings.
@@ -14,18 +15,12 @@ struct Text {
     reports: Vec<Line>,
 }
 
-struct Line {
-    string: Vec<bool>,
-    seed0: Vec<u8>,
-    seed1: Vec<u8>,
-}
-
 /// The whole output for a standard input.
 pub fn exam(text: &[u8]) -> Vec<u8> {
     let mut out = vec![0u8; MOST_ANSWER];
     let reply = exam_into(text, &mut out);
     if reply.number != 0 {
-        return format!("refused {}\n", reply.number).into_bytes();
+        return text::refused(reply.number).into_bytes();
     }
     out.truncate(reply.length as usize);
     out
@@ -116,20 +111,13 @@ fn judged(text: &Text) -> Result<String, u64> {
     Ok(printed(text.n, record, list))
 }
 
-fn digits(packed: &[u8], bits: usize) -> String {
-    unpack(packed, bits)
-        .iter()
-        .map(|&bit| if bit { '1' } else { '0' })
-        .collect()
-}
-
 fn printed(n: usize, record: &[u8], list: &[u8]) -> String {
     let mut lines = String::new();
     for (length, prefix, total) in entries(record) {
-        lines += &format!("{} {total}\n", digits(&prefix, length));
+        lines += &format!("{} {total}\n", digits(&unpack(&prefix, length)));
     }
     for string in list.chunks(crate::query::packed_size(n)) {
-        lines += &format!("heavy {}\n", digits(string, n));
+        lines += &format!("heavy {}\n", digits(&unpack(string, n)));
     }
     lines
 }
@@ -153,10 +141,7 @@ pub fn entries(record: &[u8]) -> Vec<(usize, Vec<u8>, u64)> {
 }
 
 fn read(text: &[u8]) -> Option<Text> {
-    if text.len() > 4096 || text.last() != Some(&b'\n') {
-        return None;
-    }
-    let mut lines = text[..text.len() - 1].split(|&byte| byte == b'\n');
+    let mut lines = text::body(text)?.split(|&byte| byte == b'\n');
     let head: Vec<&[u8]> = lines.next()?.split(|&byte| byte == b' ').collect();
     if head.len() != 3 && head.len() != 4 {
         return None;
@@ -178,50 +163,4 @@ fn read(text: &[u8]) -> Option<Text> {
         expander: numbers.get(3).copied().unwrap_or(2),
         reports,
     })
-}
-
-fn decimal(field: &[u8]) -> Option<u64> {
-    if field.is_empty() || field.len() > 5 || !field.iter().all(|byte| byte.is_ascii_digit()) {
-        return None;
-    }
-    if field.len() > 1 && field[0] == b'0' {
-        return None;
-    }
-    let number = field
-        .iter()
-        .fold(0, |sum, byte| 10 * sum + (byte - b'0') as u64);
-    Some(number)
-}
-
-fn report(line: &[u8], n: usize) -> Option<Line> {
-    let fields: Vec<&[u8]> = line.split(|&byte| byte == b' ').collect();
-    if fields.len() != 3 || fields[0].len() != n {
-        return None;
-    }
-    if fields[0].iter().any(|&byte| byte != b'0' && byte != b'1') {
-        return None;
-    }
-    Some(Line {
-        string: fields[0].iter().map(|&byte| byte == b'1').collect(),
-        seed0: seed(fields[1])?,
-        seed1: seed(fields[2])?,
-    })
-}
-
-fn seed(field: &[u8]) -> Option<Vec<u8>> {
-    if field.len() != 32 {
-        return None;
-    }
-    field
-        .chunks(2)
-        .map(|pair| Some(16 * hex(pair[0])? + hex(pair[1])?))
-        .collect()
-}
-
-fn hex(digit: u8) -> Option<u8> {
-    match digit {
-        b'0'..=b'9' => Some(digit - b'0'),
-        b'a'..=b'f' => Some(digit - b'a' + 10),
-        _ => None,
-    }
 }

@@ -28,8 +28,8 @@ pub(crate) struct Node {
 
 /// The seed correction and the left and right bit correction of one level.
 pub(crate) struct Correction {
-    seed: Seed,
-    controls: [bool; 2],
+    pub seed: Seed,
+    pub controls: [bool; 2],
 }
 
 /// The XOR of two seeds.

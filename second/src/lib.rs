@@ -12,16 +12,19 @@ pub mod exam;
 pub mod expander;
 pub mod field;
 pub mod judge;
+pub mod key_text;
 pub mod keys;
 pub mod query;
 pub mod rng;
 pub mod search;
 pub mod share;
 pub mod space;
+pub mod text;
 
 pub use calls::{add_shares, block, key, share};
 pub use combine::combine;
 pub use exam::{exam, exam_into, respond_into};
+pub use key_text::key_text;
 pub use search::search;
 pub use space::{list_space, record_space};
 

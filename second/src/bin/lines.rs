@@ -2,11 +2,8 @@
 
 use second::keys::public_share_size;
 use second::query::{first, pack, write};
+use second::text::hex;
 use second::{key, search, share};
-
-fn hex(bytes: &[u8]) -> String {
-    bytes.iter().map(|byte| format!("{byte:02x}")).collect()
-}
 
 fn main() {
     for expander in [1, 2] {
