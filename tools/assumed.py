@@ -3,7 +3,7 @@
 import re
 import sys
 
-PROGRAMS = {"exam", "exam_sheets", "vectors"}
+PROGRAMS = {"exam", "exam_sheets", "key", "streams", "vectors"}
 SYSTEM = {"libc", "os"}
 
 

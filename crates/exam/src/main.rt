@@ -1,59 +1,12 @@
 // The exam program: an exam text on standard input, its answer on standard output.
 use libc::STDERR_FILENO;
-use libc::STDIN_FILENO;
 use libc::STDOUT_FILENO;
-ghost use Prim.Native.Nat.{_+_, _≤_};
+use streams::read_text;
+ghost use Prim.Native.Nat.{_≤_};
 ghost use mathlib.Core.Path.{_≡_};
 ghost use lib.ListN.{length, take};
 ghost use Rattle.io.specs.Counts.{Counts};
 ghost use Rattle.exam_answering.specs.Exam.{output, answerSpace};
-
-// How many bytes were read, and whether a read failed.
-struct Input {
-    length: usize,
-    failed: bool,
-}
-
-// One read into the places from `done` on; the bytes before stay as they are.
-fn read_more(text: &mut [u8], done: usize) -> Input
-    requires { ⌜ done ≤ length (now text) ⌝ }
-    ensures room { λ r. ⌜ (done + r .length ≤ length (now (text .entry))) × (length (now (text .exit)) ≡ length (now (text .entry))) ⌝ }
-    ensures kept { λ _. ⌜ take done (now (text .exit)) ≡ take done (now (text .entry)) ⌝ }
-{
-    let part = &mut text[done..];
-    let got = libc::read(STDIN_FILENO, part);
-    Input {
-        length: io::count(got, part),
-        failed: got < 0,
-    }
-}
-
-// Reads until the input ends, the space is full or a read fails.
-fn read_text(text: &mut [u8]) -> Input
-    ensures { λ r. ⌜ Counts (r .length) (now (text .exit)) ⌝ }
-{
-    let mut done = 0;
-    while done < text.len() {
-        let more = read_more(text, done);
-        if more.failed {
-            return Input {
-                length: done,
-                failed: true,
-            };
-        }
-        if more.length == 0 {
-            return Input {
-                length: done,
-                failed: false,
-            };
-        }
-        done += more.length;
-    }
-    Input {
-        length: done,
-        failed: false,
-    }
-}
 
 // The whole output for an exam text at the beginning of `out`, and how many bytes it has.
 fn reply(text: &[u8], out: &mut [u8]) -> usize

@@ -13,4 +13,3 @@ pub mod SameAnswer
 pub mod SheetSearch
 pub mod Searched
 pub mod Queried
-pub mod Inside

@@ -16,8 +16,8 @@ use Rattle.calls.proofs.Judged as judging
 use Rattle.exam_text.specs.Characters.{newline, decimal}
 use Rattle.exam_text.specs.Sheet.{Sheet, text, Within}
 use Rattle.exam_answering.specs.AnswerText.{answerText}
-use Rattle.exam_lines.specs.Lines.{writtenIn, refusedText, refusedOutcome}
-use Rattle.exam_answering.specs.Exam.{examCauses, examOutcome, answerSpace, outputFor, output, respondOutcome}
+use Rattle.exam_lines.specs.Lines.{writtenIn, refusedText, outputFor, refusedOutcome}
+use Rattle.exam_answering.specs.Exam.{examCauses, examOutcome, answerSpace, output, respondOutcome}
 use Rattle.exam_text.proofs.TextLengths.{decimal-length}
 use Rattle.exam_answering.proofs.Exam.{exam-due, exam-answered}
 use Rattle.exam_answering.proofs.ExamTheorems.{exam-numbers}

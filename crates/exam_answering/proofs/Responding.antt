@@ -15,8 +15,8 @@ use Rattle.calls.specs.Outcome.{Outcome, judged}
 use Rattle.expander.specs.Expander.{isExpander}
 use Rattle.exam_text.specs.Sheet.{Sheet, expanderNumber, Within}
 use Rattle.exam_answering.specs.AnswerText.{answerText}
-use Rattle.exam_lines.specs.Lines.{writtenIn, refusedOutcome}
-use Rattle.exam_answering.specs.Exam.{examOutcome, answerSpace, outputFor, output, respondOutcome}
+use Rattle.exam_lines.specs.Lines.{writtenIn, outputFor, refusedOutcome}
+use Rattle.exam_answering.specs.Exam.{examOutcome, answerSpace, output, respondOutcome}
 use Rattle.exam_text.proofs.ReaderExact.{SheetOrNone, sheet-or-none}
 use Rattle.exam_answering.proofs.Exam.{sheet-outcome, none-outcome}
 use Rattle.exam_answering.proofs.ExamTheorems.{exam-refused, answer-fits}

@@ -1,19 +1,19 @@
 -- The calls `answer` and `respond`: document 01, 'Causes of refusal' and 'Exam program'.
 use Prim.Native.Nat.{ℕ, _<_}
 use mathlib.Core.Path.{_≡_}
-use mathlib.Core.Bool.{Bool, true, false, not, cond}
+use mathlib.Core.Bool.{Bool, true, false, not}
 use mathlib.Core.List.{List, [], _∷_}
 use mathlib.Core.Logic.{_≢_}
 use mathlib.Core.Option.{Option, none, some}
 use lib.ListN.{length}
-use lib.Dec.{ltb, eqb}
+use lib.Dec.{ltb}
 use Rattle.calls.specs.Bounds.{mostBits, mostThreshold, Outside, outside}
 use Rattle.calls.specs.Causes.{Cause, cause}
 use Rattle.calls.specs.Outcome.{Outcome, judged, Exit, exit}
 use Rattle.expander.specs.Expander.{isExpander}
 use Rattle.exam_text.specs.Sheet.{Sheet, expanderNumber, text, Within}
 use Rattle.exam_text.specs.Reader.{readSheet}
-use Rattle.exam_lines.specs.Lines.{refusedText, writtenIn}
+use Rattle.exam_lines.specs.Lines.{outputFor, writtenIn}
 use Rattle.exam_answering.specs.AnswerText.{answerText}
 
 -- ---- `answer`
@@ -63,9 +63,6 @@ answerSpace = 43232
 -- ---- `respond`
 
 -- the whole output for a text: the answer, or the line of the refusal
-abbrev pub outputFor : Outcome → List ℕ
-outputFor o = cond (eqb (o .number) 0) (o .written) (refusedText (o .number))
-
 unfoldable pub output : List ℕ → List ℕ
 output bytes = outputFor (examOutcome bytes answerSpace)
 

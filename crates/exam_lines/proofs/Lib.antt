@@ -1,4 +1,2 @@
-pub mod LastDigit
-pub mod PrintedBits
-pub mod PrintedParts
-pub mod LineRoom
+pub mod LineSizes
+pub mod Inside

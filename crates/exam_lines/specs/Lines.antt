@@ -1,11 +1,10 @@
 -- The lines of an answer, and that of a refusal: document 01, 'Exam program'.
-use Prim.Native.Nat.{ℕ, _+_}
+use Prim.Native.Nat.{ℕ}
 use mathlib.Core.Bool.{cond}
 use mathlib.Core.List.{List, [], _∷_, _++_}
 use lib.ListN.{length}
-use lib.Dec.{leb, eqb}
+use lib.Dec.{eqb}
 use Rattle.bits.specs.Strings.{Bits}
-use Rattle.bits.specs.Packing.{packedLength, unpack}
 use Rattle.calls.specs.Bounds.{spaceCause}
 use Rattle.calls.specs.Outcome.{Outcome, judged}
 use Rattle.exam_text.specs.Characters.{space, newline, binary, decimal}
@@ -38,15 +37,9 @@ refusedText k = refusedWord ++ (space ∷ decimal k ++ (newline ∷ []))
 abbrev pub writtenIn : List ℕ → ℕ → Outcome
 writtenIn bytes room = judged (spaceCause (length bytes) room ∷ []) bytes
 
+-- the whole output of a call whose refusal is a line: what it writes, or the line of its refusal
+abbrev pub outputFor : Outcome → List ℕ
+outputFor o = cond (eqb (o .number) 0) (o .written) (refusedText (o .number))
+
 unfoldable pub refusedOutcome : ℕ → ℕ → Outcome
 refusedOutcome k room = writtenIn (refusedText k) room
-
--- ---- `write_prefix_line` and `write_heavy_line`
-
--- the line of k bits that are packed in as many bytes as they take; of other bytes there is none
-abbrev pub packedLine : (Bits → List ℕ) → ℕ → List ℕ → List ℕ
-packedLine line k packed = cond (eqb (length packed) (packedLength k)) (line (unpack k packed)) []
-
--- the place behind a text that is put at a place, or that place itself where there is no room for it
-abbrev pub placeBehind : List ℕ → ℕ → List ℕ → ℕ
-placeBehind out at vs = cond (leb (at + length vs) (length out)) (at + length vs) at

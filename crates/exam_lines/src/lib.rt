@@ -2,20 +2,17 @@
 use crate::answer_lines::put_heavy_line;
 use crate::answer_lines::put_prefix_line;
 use crate::answer_lines::write_refused;
-use crate::decimal::decimal_length;
 use calls::Reply;
+use fields::decimal_length;
+use fields::has_room;
 ghost use mathlib.Core.Path.{_≡_};
-ghost use mathlib.Core.Bool.{_&&_};
-ghost use Prim.Native.Nat.{_+_};
 ghost use lib.ListN.{length};
-ghost use lib.Dec.{leb, eqb};
 ghost use Rattle.places.specs.Places.{putAt};
 ghost use Rattle.calls.specs.Outcome.{exit, left};
-ghost use Rattle.bits.specs.Packing.{packedLength};
-ghost use Rattle.exam_lines.specs.Lines.{prefixLine, heavyLine, refusedOutcome, packedLine, placeBehind};
+ghost use Rattle.fields.specs.Field.{packedLine, placeBehind};
+ghost use Rattle.exam_lines.specs.Lines.{prefixLine, heavyLine, refusedOutcome};
 
 mod answer_lines;
-mod decimal;
 
 // Writes the line `refused` and the number; refuses with 11 where it does not fit.
 pub fn refused_line(number: u64, out: &mut [u8]) -> Reply
@@ -33,24 +30,6 @@ pub fn refused_line(number: u64, out: &mut [u8]) -> Reply
         number: 0,
         length: size as u64,
     }
-}
-
-// Whether k bits are packed in so many bytes, and a line of them and of `rest` other characters has room from place `at` on.
-fn has_room(bytes: usize, k: usize, rest: usize, room: usize, at: usize) -> bool
-    ensures { λ r. ⌜ r ≡ (eqb bytes (packedLength k) && leb (at + (k + rest)) room) ⌝ }
-{
-    if bytes != bits::packed_length(k) {
-        return false;
-    }
-    if room < k {
-        return false;
-    }
-    let left = room - k;
-    if left < rest {
-        return false;
-    }
-    let last = left - rest;
-    at <= last
 }
 
 // Writes the line of a prefix of k bits and its total at a place, where it has room, and gives back the place behind it.

@@ -1,4 +1,5 @@
-// Exam texts read: whether a text is that of a sheet, the numbers of its first line, and its lines one by one.
+// Exam texts read: whether a text is that of a sheet, the numbers of its first line, and its lines one by one; and the line of a key.
+use crate::fields::read_field;
 use crate::first_line::read_first_line;
 use crate::lines::are_lines;
 use crate::lines::has_line;
@@ -8,6 +9,7 @@ ghost use mathlib.Core.Path.{_≡_};
 ghost use mathlib.Core.Bool.{true, false};
 ghost use Rattle.bits.specs.Packing.{packIn};
 ghost use Rattle.exam_text.specs.Reader.{isSheet, SheetSays, lineAt};
+ghost use Rattle.exam_text.specs.KeyLine.{isKeyLine, KeyLineSays};
 
 mod fields;
 mod first_line;
@@ -29,6 +31,14 @@ pub struct LineRead {
     pub string: [u8; 4],
     pub seed0: [u8; 16],
     pub seed1: [u8; 16],
+}
+
+// What the text of a key says: whether it is one, its two numbers, and the place of its string and seeds; all 0 where it is not.
+pub struct KeyLineRead {
+    pub is_key_line: bool,
+    pub n: u16,
+    pub expander: u64,
+    pub place: usize,
 }
 
 // What is said of a text that is not that of a sheet.
@@ -101,5 +111,48 @@ pub fn read_line(text: &[u8], at: usize, n: u16) -> LineRead
         string,
         seed0,
         seed1,
+    }
+}
+
+// What is said of a text that is not that of a key.
+fn no_key_line() -> KeyLineRead
+    ensures { λ r. ⌜ r .«is_key_line» ≡ false ⌝ }
+    ensures { λ r. ⌜ (r .n ≡ 0) × (r .expander ≡ 0) × (r .place ≡ 0) ⌝ }
+{
+    KeyLineRead {
+        is_key_line: false,
+        n: 0,
+        expander: 0,
+        place: 0,
+    }
+}
+
+// Reads the text of a key: whether it is one, its two numbers, and where its string and seeds stand.
+pub fn read_key_line(text: &[u8]) -> KeyLineRead
+    ensures key { λ r. ⌜ r .«is_key_line» ≡ isKeyLine (now (text .entry)) ⌝ }
+    ensures says { λ r. ⌜ (r .«is_key_line» ≡ true → KeyLineSays (now (text .entry)) (r .n) (r .expander) (r .place)) ⌝ }
+    ensures none { λ r. ⌜ (r .«is_key_line» ≡ false → (r .n ≡ 0) × (r .expander ≡ 0) × (r .place ≡ 0)) ⌝ }
+{
+    let n = read_field(text, 0, 32);
+    if !n.laid_out {
+        return no_key_line();
+    }
+    let expander = read_field(text, n.behind, 32);
+    if !expander.laid_out {
+        return no_key_line();
+    }
+    let bits = n.value;
+    if 32 < bits {
+        return no_key_line();
+    }
+    let place = expander.behind;
+    if !are_lines(text, place, bits, 1) {
+        return no_key_line();
+    }
+    KeyLineRead {
+        is_key_line: true,
+        n: bits as u16,
+        expander: expander.value as u64,
+        place,
     }
 }

@@ -12,6 +12,8 @@ pub mod LineTests
 pub mod SheetTests
 pub mod Values
 pub mod Placed
+pub mod KeyTests
+pub mod KeyExact
 pub mod TextLengths
 pub mod Examples
 pub mod Records

@@ -31,7 +31,8 @@ use Rattle.report_sums.specs.Reports.{sumWhere, lentShare, serverSum}
 use Rattle.idpf.specs.Share.{shareBytes, shareOutcome}
 use Rattle.exam_text.specs.Characters.{binary, decimalIn}
 use Rattle.exam_text.specs.Sheet.{Line, Sheet, strings, expanderNumber, text}
-use Rattle.exam_answering.specs.Exam.{examOutcome, answerSpace, outputFor, output}
+use Rattle.exam_lines.specs.Lines.{outputFor}
+use Rattle.exam_answering.specs.Exam.{examOutcome, answerSpace, output}
 use Rattle.exam_answering.specs.AnswerText.{heavyLines, prefixLines, queriedFrom, answerText}
 use Rattle.exam_answering.proofs.Exam.{sheet-outcome}
 use Rattle.exam_answering.proofs.SameAnswer.{same-answer}

@@ -1,23 +1,18 @@
 -- The key maker's outcome for an honest report.
 use mathlib.Core.Path.{_≡_, refl, sym, ap, ap₂, _∙_}
-use mathlib.Core.Bool.{true, not}
+use mathlib.Core.Bool.{true}
 use mathlib.Core.List.{List}
 use Prim.Native.Nat.{ℕ, _≤_}
 use native.Mathlib.Omega.{arith}
-use borrow.Author.Tests.{le-ltb, eq-eqb}
 use lib.ListN.{length}
 use Rattle.bits.specs.Strings.{Bits}
 use Rattle.places.specs.Places.{Bytes}
-use Rattle.bits.specs.Packing.{packedLength, pack, unpack, spareZero}
-use Rattle.bits.proofs.Packed.{pack-length, unpack-pack, pack-spareZero}
+use Rattle.bits.specs.Packing.{pack, unpack}
+use Rattle.bits.proofs.Packed.{unpack-pack}
 use Rattle.calls.specs.Outcome.{accepted}
-use Rattle.calls.proofs.Decisions.{neither-test, in-bounds}
-use Rattle.calls.proofs.Judged.{judged-accepted, _&_}
-use Rattle.expander.specs.Expander.{choiceOf, under}
+use Rattle.expander.specs.Expander.{choiceOf}
 use Rattle.expander.specs.declared.Expander.{Expander}
-use Rattle.expander.specs.declared.Choice.{Choice}
 use Rattle.expander.specs.declared.Choice.the-variants.{Known}
-use Rattle.expander.proofs.Chosen.{known}
 use Rattle.group.specs.Modular.{p}
 use Rattle.point.specs.Keys.{keyCorrection}
 use Rattle.point.specs.Evaluation.{bitOf}
@@ -26,7 +21,8 @@ use Rattle.point.specs.Totals.{Report, reportCorrection, reportPublicShare}
 use Rattle.point.specs.Instance.{scheme}
 use Rattle.point.proofs.Honest.{report-bytes, report-passes}
 use Rattle.point.proofs.Instance.{scheme-lawful, p-fits}
-use Rattle.keymaker.specs.Key.{keyCauses, keyBytes, keyOutcome}
+use Rattle.keymaker.specs.Key.{keyBytes, keyOutcome}
+use Rattle.keymaker.proofs.KeyMade.{key-made}
 use Rattle.honest.proofs.Made.{HonestReport}
 
 -- Any string of n bits and any two seeds of 16 bytes make an honest report.
@@ -46,16 +42,9 @@ module _ (e : Expander) (n : ℕ) (r : Report ℕ) (honest : HonestReport n r) w
   -- For a string of 1 to 256 bits, seeds of 16 bytes and room enough, the key maker succeeds and writes the report's public share.
   pub key-accepted : (number : ℕ) → choiceOf number ≡ Known e → 1 ≤ n → n ≤ 256 → (room : ℕ) → publicShareLength n ≤ room
       → keyOutcome n number (pack (r .string)) (r .seed0) (r .seed1) room ≡ accepted (reportPublicShare (scheme e) n r)
-  unfolding keyOutcome
   key-accepted number named from to room fits =
-      let size : length (pack (r .string)) ≡ packedLength n = pack-length (r .string) ∙ ap packedLength (honest .made .bits) in
-      let spare : spareZero n (pack (r .string)) ≡ true = ap (λ (m : ℕ). spareZero m (pack (r .string))) (sym (honest .made .bits)) ∙ pack-spareZero (r .string) in
-      let lengths =
-      neither-test (ap not (eq-eqb (length (pack (r .string))) (packedLength n) size))
-      (neither-test (ap not (eq-eqb (length (r .seed0)) 16 (honest .made .sized0 .size))) (ap not (eq-eqb (length (r .seed1)) 16 (honest .made .sized1 .size)))) in
-      judged-accepted (keyCauses n number (pack (r .string)) (r .seed0) (r .seed1) room) _
-      (in-bounds 256 n from to & ap not (known number e named) & lengths & ap not spare & le-ltb room (publicShareLength n) fits & tt)
-      ∙ ap accepted (ap (λ (c : Choice). under c (keyBytes n (pack (r .string)) (r .seed0) (r .seed1))) named ∙ key-bytes)
+      key-made n number e named (r .string) (r .seed0) (r .seed1) (honest .made .bits) (honest .made .sized0) (honest .made .sized1) from to room fits
+      ∙ ap accepted key-bytes
 
   -- What it writes has the length of a public share, its payload corrections are below p, and its spare bits are zero.
   pub key-passes : let share = reportPublicShare (scheme e) n r in

@@ -4,3 +4,4 @@ pub mod KeyWriting
 pub mod KeyMaker
 pub mod KeyCauses
 pub mod KeyTheorems
+pub mod KeyMade

@@ -1,4 +1,4 @@
-// A server's walk down the levels of one public share, which is read in place: its shares at two prefixes, and the tests of causes 6 and 7.
+// A server's walk down the levels of one public share, which is read in place: its correction words, its shares at two prefixes, and the tests of causes 6 and 7.
 mod checks;
 mod pairs;
 mod reader;
@@ -8,3 +8,4 @@ pub use checks::payloads_below;
 pub use checks::spare_bits_zero;
 pub use pairs::Shares;
 pub use pairs::shares_at;
+pub use reader::read_correction;

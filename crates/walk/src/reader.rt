@@ -20,7 +20,7 @@ pub(crate) struct LevelRead {
 }
 
 // The correction word of level k, of n, in a public share.
-fn read_correction(bytes: &[u8], n: u16, k: u16) -> Correction
+pub fn read_correction(bytes: &[u8], n: u16, k: u16) -> Correction
     ensures { λ r. ⌜ correctionOf r ≡ readCorrection n (now (bytes .entry)) k ⌝ }
 {
     let level = k as usize;

@@ -7,7 +7,7 @@ use Rattle.io.proofs.Counting.{counts}
 use Rattle.places.specs.Places.{overlay}
 use Rattle.calls.specs.Outcome.{Outcome, Exit, exit}
 use Rattle.exam_answering.specs.Exam.{output}
-use Rattle.exam_answering.proofs.Inside.{inside}
+use Rattle.exam_lines.proofs.Inside.{inside}
 use Rattle.exam_answering.proofs.Outputs.{respond-enough}
 use Rattle.exam.proofs.reply.Statement.{statement}
 use Rattle.exam.proofs.reply.Tie as tie

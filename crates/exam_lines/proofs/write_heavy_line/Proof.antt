@@ -3,7 +3,8 @@ use mathlib.Core.Path.{sym, _∙_}
 use borrow.Author.Needs.{needs}
 use borrow.Author.Tests.{not-true, not-false}
 use Rattle.exam_lines.specs.Lines.{heavyLine}
-use Rattle.exam_lines.proofs.LineRoom.{heavy-size, not-put, has-line-room, put-here}
+use Rattle.exam_lines.proofs.LineSizes.{heavy-size}
+use Rattle.fields.proofs.LineRoom.{not-put, has-line-room, put-here}
 use Rattle.exam_lines.proofs.write_heavy_line.Statement.{statement}
 use Rattle.exam_lines.proofs.write_heavy_line.Tie as tie
 

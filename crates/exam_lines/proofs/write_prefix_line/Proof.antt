@@ -8,7 +8,8 @@ use lib.ListN.{length}
 use Rattle.bits.specs.Strings.{Bits}
 use Rattle.bits.specs.Packing.{packedLength, unpack}
 use Rattle.exam_lines.specs.Lines.{prefixLine}
-use Rattle.exam_lines.proofs.LineRoom.{prefix-size, not-put, has-line-room, put-here}
+use Rattle.exam_lines.proofs.LineSizes.{prefix-size}
+use Rattle.fields.proofs.LineRoom.{not-put, has-line-room, put-here}
 use Rattle.exam_lines.proofs.write_prefix_line.Statement.{statement}
 use Rattle.exam_lines.proofs.write_prefix_line.Tie as tie
 

@@ -3,7 +3,7 @@ use mathlib.Core.Path.{ap}
 use borrow.Author.Needs.{needs}
 use Rattle.io.proofs.Counting.{counts}
 use Rattle.calls.specs.Outcome.{Exit}
-use Rattle.exam_answering.proofs.Inside.{inside}
+use Rattle.exam_lines.proofs.Inside.{inside}
 use Rattle.exam_sheets.proofs.show.Statement.{statement}
 use Rattle.exam_sheets.proofs.show.Tie as tie
 

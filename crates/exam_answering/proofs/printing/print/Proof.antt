@@ -8,7 +8,7 @@ use lib.ListN.{length, length-append}
 use Rattle.bits.specs.Packing.{packedLength}
 use Rattle.places.proofs.Places.{Grown, grown-start, grown-room, grown-more, putAt-overlay}
 use Rattle.exam_answering.specs.Printing.{recordLines, listLines, printed}
-use Rattle.exam_lines.proofs.PrintedParts.{all-written}
+use Rattle.fields.proofs.FieldChain.{all-written}
 use Rattle.exam_answering.proofs.printing.print.Statement.{statement}
 use Rattle.exam_answering.proofs.printing.print.Tie as tie
 

@@ -9,7 +9,7 @@ use Rattle.bits.specs.Packing.{packedLength, unpack}
 use Rattle.places.proofs.Places.{window-inside}
 use Rattle.query.proofs.Pieces.{part-length}
 use Rattle.exam_lines.specs.Lines.{prefixLine}
-use Rattle.exam_lines.proofs.LineRoom.{put-there}
+use Rattle.fields.proofs.LineRoom.{put-there}
 use Rattle.exam_answering.proofs.printing.write_entry.Statement.{statement}
 use Rattle.exam_answering.proofs.printing.write_entry.Tie as tie
 

@@ -7,7 +7,7 @@ use lib.ListN.{length, take, drop}
 use Rattle.bits.specs.Packing.{packedLength, unpack}
 use Rattle.query.proofs.Pieces.{part-length}
 use Rattle.exam_lines.specs.Lines.{heavyLine}
-use Rattle.exam_lines.proofs.LineRoom.{put-there}
+use Rattle.fields.proofs.LineRoom.{put-there}
 use Rattle.exam_answering.proofs.printing.write_heavy.Statement.{statement}
 use Rattle.exam_answering.proofs.printing.write_heavy.Tie as tie
 

@@ -10,7 +10,7 @@ use Rattle.places.proofs.Places.{Grown, grown-start, grown-room, grown-more}
 use Rattle.query.proofs.Pieces.{grown-length}
 use Rattle.exam_text.proofs.Records.{Rounds}
 use Rattle.exam_answering.specs.Printing.{roundLength, recordLines}
-use Rattle.exam_lines.proofs.PrintedParts.{all-written}
+use Rattle.fields.proofs.FieldChain.{all-written}
 use Rattle.exam_answering.proofs.PrintedLines.{roundLines, rest-of, record-none, record-end, record-step, rounds-step}
 use Rattle.exam_answering.proofs.printing.write_record.Statement.{statement}
 use Rattle.exam_answering.proofs.printing.write_record.Tie as tie

@@ -1,0 +1,2 @@
+pub mod KeyPage
+pub mod KeyAnswer
