@@ -1,6 +1,6 @@
 #!/usr/bin/env bash
-# The script `exam` around a program: first uses at once, failures with their own sentences, staleness, options. A stand-in for the kit builds a
-# stand-in for the program, so that a build takes a second.
+# The scripts `exam` and `key` around their programs: first uses at once, failures with their own sentences, staleness, options. A stand-in for the kit builds
+# a stand-in for the program, so that a build takes half a second.
 set -euo pipefail
 cd "$(dirname "$0")/.."
 work=$(mktemp -d)
@@ -15,8 +15,8 @@ fault() {
 tree() {
     here=$work/$1
     mkdir -p "$here/crates/exam/src" "$here/tools" "$here/kit"
-    cp exam "$here/exam"
-    cp tools/explain.py "$here/tools/explain.py"
+    cp exam key "$here/"
+    cp tools/program.sh tools/explain.py "$here/tools/"
     echo 'exam:' >"$here/crates.txt"
     echo '// source' >"$here/crates/exam/src/main.rt"
     echo 'kit one' >"$here/kit/version"
@@ -28,7 +28,7 @@ text=$(cat)
 case $text in
     bad*) echo 'refused 10' ;;
     fail*) exit 3 ;;
-    mute*) echo 'exam: standard input cannot be read' >&2 ;;
+    mute*) echo "${0##*/}: standard input cannot be read" >&2 ;;
     *) echo "answer to $text" ;;
 esac
 END
@@ -38,20 +38,21 @@ kit=$(dirname "$0")
 case $1 in
     version) cat "$kit/version" ;;
     check)
-        echo build >>"$kit/builds"
-        sleep 1
+        echo "$2" >>"$kit/builds"
+        mkdir "$kit/busy" || echo 'two builds at once' >>"$kit/builds"
+        sleep 0.5
+        rmdir "$kit/busy"
         case $(cat "$kit/behaviour") in
             unproved) echo 'logic=not-proved'; exit 1 ;;
             broken) echo 'no space left on device'; exit 1 ;;
             slow) sleep 300 & echo $! >"$kit/worker"; wait ;;
         esac
         mkdir -p target/bin
-        cp "$kit/program" target/bin/exam
-        chmod +x target/bin/exam
+        cp "$kit/program" "target/bin/$2"
         ;;
 esac
 END
-    chmod +x "$here/kit/rt" "$here/kit/program" "$here/exam"
+    chmod +x "$here/kit/rt" "$here/kit/program"
     PATH=$here/kit:$plain
 }
 # the path without the kit
@@ -60,13 +61,14 @@ IFS=: read -ra folders <<<"$PATH"
 for folder in "${folders[@]}"; do
     [ -x "$folder/rt" ] || plain=${plain:+$plain:}$folder
 done
-builds() { wc -l <"$here/kit/builds"; }
+name=exam
+builds() { grep -cx "$name" "$here/kit/builds" || true; }
 
 # expect STATUS TEXT SENTENCE ARGUMENTS ..: runs the script on the text, and looks for its status and for a sentence in what it says
 expect() {
     local status=$1 text=$2 sentence=$3 got=0
     shift 3
-    printf '%s\n' "$text" | "$here/exam" "$@" >"$work/out" 2>"$work/err" || got=$?
+    printf '%s\n' "$text" | "$here/$name" "$@" >"$work/out" 2>"$work/err" || got=$?
     [ "$got" -eq "$status" ] || fault "status $got and not $status for '$text' ($(cat "$work/err"))"
     grep -q -- "$sentence" "$work/out" "$work/err" || fault "'$sentence' was not said: $(cat "$work/out" "$work/err")"
 }
@@ -184,3 +186,46 @@ expect 0 '' 'answer to first' "$work/a"
 expect 1 '' 'cannot be read' "$work/missing"
 expect 0 bad 'line 1, column 1: expected a decimal digit of n' --explain
 [ "$(cat "$work/out")" = 'refused 10' ] || fault 'with --explain another output'
+
+# the script `key`: a first use beside one of `exam`, each program built once and one after the other
+name=key
+tree beside
+echo one | "$here/exam" >"$work/one" 2>"$work/one.err" &
+first=$!
+expect 0 two 'answer to two'
+wait "$first" || fault 'the use of exam beside one of key failed'
+[ "$(cat "$work/one" "$work/out")" = "$(printf 'answer to one\nanswer to two')" ] || fault 'the answers of exam and key at once'
+[ "$(sort "$here/kit/builds")" = "$(printf 'exam\nkey')" ] || fault "built for exam and key at once: $(cat "$here/kit/builds")"
+
+# its failures, in its own name
+expect 1 fail '^key: the run failed with status 3'
+expect 1 mute '^key: standard input cannot be read'
+expect 1 '' '^key: the file .* cannot be read' "$work/missing"
+got=0
+echo hello | "$here/key" >&- 2>"$work/err" || got=$?
+[ "$got" -eq 1 ] && grep -q '^key: standard output is closed' "$work/err" || fault "status $got with standard output closed: $(cat "$work/err")"
+
+# its options and files
+expect 0 '' 'usage: key \[FILE' --help
+expect 0 '' '^kit kit one, commit ' --version
+expect 2 hello '^key: there is no option --explain' --explain
+"$here/key" "$work/a" "$work/b" >"$work/out"
+[ "$(cat "$work/out")" = "$(printf '%s\nanswer to first\n\n%s\nrefused 10' "$work/a" "$work/b")" ] || fault "several files: $(cat "$work/out")"
+ln -s "$here/key" "$work/exam"
+[ "$(cd "$here" && echo hello | CDPATH=/ "$work/exam")" = 'answer to hello' ] || fault 'key by a symbolic link of another name'
+[ "$(builds)" -eq 1 ] || fault 'key was built again though nothing changed'
+
+# each program is stale for itself, and one that failed to build leaves the other as it was
+echo '// another' >>"$here/crates/exam/src/main.rt"
+expect 0 hello 'answer to hello'
+[ "$(builds)" -eq 2 ] || fault 'key was not built again for another source'
+echo unproved >"$here/kit/behaviour"
+name=exam expect 1 hello '^exam: the program is not proved'
+expect 0 hello 'answer to hello'
+echo 'kit two' >"$here/kit/version"
+expect 1 hello '^key: the program is not proved'
+echo broken >"$here/kit/behaviour"
+expect 1 hello '^key: the program could not be built'
+PATH=$plain expect 1 hello '^key: the Rattle kit is needed'
+rm "$here/tools/program.sh"
+expect 1 hello '^key: tools/program.sh cannot be read'

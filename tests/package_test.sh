@@ -1,5 +1,5 @@
 #!/usr/bin/env bash
-# The archive for a sitting, taken apart in an empty folder by another user without the kit, answers the sheets; and tools/mark marks what is handed in.
+# The archive for a sitting, taken apart in an empty folder by another user without the kit, answers the sheets and the keys; and tools/mark marks what is handed in.
 set -euo pipefail
 cd "$(dirname "$0")/.."
 work=$(mktemp -d)
@@ -17,8 +17,13 @@ sha256sum --quiet -c SHA256SUMS
 for sheet in sheets/*.txt; do
     ./exam <"$sheet" | cmp - "${sheet%.txt}.out"
 done
+for key in keys/*.txt; do
+    ./key <"$key" | cmp - "${key%.txt}.out"
+done
 [ "$(printf '1 1 0 3\n' | ./exam)" = 'refused 3' ]
+[ "$(printf '1 1 0\n' | ./key)" = 'refused 10' ]
 ./exam --version | grep -q '^kit .*, commit '
+[ "$(./key --version)" = "$(./exam --version)" ]
 mkdir ../handed ../handed/ann ../handed/bob
 cp sheets/*.out ../handed/ann/
 cp sheets/*.out ../handed/bob/

@@ -1,8 +1,10 @@
 #!/usr/bin/env python3
-"""Each line of a program that docs/SERVERS.md quotes stands in a program that the gate runs; the README leads to every page of docs, and no link of either is broken."""
+"""Each line of a program that docs/SERVERS.md quotes stands in a program that the gate runs; each output that the README and docs/EXAM.md quote is that of
+a sheet, a key or a C example, and refusals are what the programs print; the README leads to every page of docs, and no link of these is broken."""
 import glob
 import os
 import re
+import subprocess
 import sys
 
 PROGRAMS = {"c": ["examples/c/two_servers.c", "examples/c/split_server.c"], "rust": ["rust/examples/two_servers.rs"]}
@@ -14,7 +16,38 @@ def links(page):
     return {os.path.normpath(os.path.join(here, link)) for link in re.findall(r"\]\(([^)#:]+)\)", text)}
 
 
+def quoted(page):
+    """Texts and outputs that a page quotes, each the whole of a file."""
+    files = {open(path, encoding="utf-8").read() for path in glob.glob("docs/sheets/*") + glob.glob("docs/keys/*") + glob.glob("examples/c/*.out")}
+    blocks = [re.sub("^    ", "", block, flags=re.M) for block in re.findall(r"(?:^    .+\n)+", open(page, encoding="utf-8").read(), re.M)]
+    found = [block for block in blocks if re.match(r"control |[01]+ \d+\n|\d+ \d+ [01]+ ", block)]
+    for block in found:
+        if block not in files:
+            sys.exit("pages_test: %s quotes what no sheet, key or example has: %s" % (page, block))
+    return len(found)
+
+
+def refusals(program, text):
+    """The texts that a table of refusals names, and what the program prints for them."""
+    tried = 0
+    for number, cell in re.findall(r"^\| (\d+) \| [^|]* \| (`[^|]*) \|$", text, re.M):
+        for line in re.findall("`([^`]+)`", cell):
+            said = subprocess.run([program], input=line.encode() + b"\n", stdout=subprocess.PIPE, check=True).stdout
+            if said != b"refused %s\n" % number.encode():
+                sys.exit("pages_test: docs/EXAM.md says %s of '%s', and %s prints %s" % (number, line, program, said))
+            tried += 1
+    return tried
+
+
 def main():
+    exam, key = open("docs/EXAM.md", encoding="utf-8").read().split("\n## The key program\n")
+    if quoted("docs/EXAM.md") < 6 or quoted("README.md") < 3:
+        sys.exit("pages_test: docs/EXAM.md or the README quotes too little")
+    for program, text, least in [("target/bin/exam", exam, 13), ("target/bin/key", key, 8)]:
+        if not os.access(program, os.X_OK):
+            sys.exit("pages_test: %s is not built" % program)
+        if refusals(program, text) < least:
+            sys.exit("pages_test: docs/EXAM.md names too few texts that %s refuses" % program)
     page = open("docs/SERVERS.md", encoding="utf-8").read()
     blocks = re.findall(r"^```(.*)\n((?:.*\n)*?)```$", page, re.M)
     if len(blocks) < 5:
@@ -30,7 +63,7 @@ def main():
     for path in sorted(glob.glob("docs/*.md") + glob.glob("docs/landings/*.md") + ["CHANGELOG.md"]):
         if path not in led:
             sys.exit("pages_test: the README does not lead to %s" % path)
-    for path in sorted(led | links("docs/SERVERS.md") | links("CHANGELOG.md")):
+    for path in sorted(led | links("docs/SERVERS.md") | links("docs/EXAM.md") | links("CHANGELOG.md")):
         if not os.path.exists(path):
             sys.exit("pages_test: a link leads to %s, which is not there" % path)
 
