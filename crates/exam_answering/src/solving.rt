@@ -1,14 +1,15 @@
 // The search of a sheet, and its answer.
 use crate::printing::print;
 use calls::Reply;
+use exam_lines::write_text;
 use exam_reports::make_reports;
 use nodes::public_share_length;
-use places::copy;
 ghost use mathlib.Core.Path.{_≡_};
 ghost use mathlib.Core.Bool.{true};
 ghost use Prim.Native.Nat.{_≤_};
 ghost use lib.ListN.{length};
 ghost use Rattle.places.specs.Places.{overlay};
+ghost use Rattle.calls.specs.Outcome.{exit, left};
 ghost use Rattle.exam_lines.specs.Lines.{writtenIn};
 ghost use Rattle.expander.specs.Expander.{isExpander};
 ghost use Rattle.search.specs.Search.{lent};
@@ -106,10 +107,7 @@ pub(crate) fn solve(text: &[u8], n: u16, t: u64, expander: u64, count: u16, out:
     requires { ⌜ (isSheet (now text) ≡ true) × (1 ≤ n) × (n ≤ 32) × (1 ≤ t) × (t ≤ 65535) × (isExpander expander ≡ true) × (count ≤ 32) ⌝ }
     requires { ⌜ (n ≡ sheetOf (now text) .n) × (t ≡ sheetOf (now text) .t) × (expander ≡ expanderNumber (sheetOf (now text) .expander)) ×
         (count ≡ length (sheetOf (now text) .lines)) ⌝ }
-    ensures { λ r. ⌜ r .number ≡ writtenIn (searchText (sheetOf (now (text .entry)))) (length (now (out .entry))) .number ⌝ }
-    ensures { λ r. ⌜ r .length ≡ length (writtenIn (searchText (sheetOf (now (text .entry)))) (length (now (out .entry))) .written) ⌝ }
-    ensures { λ _. ⌜ now (out .exit) ≡ overlay (writtenIn (searchText (sheetOf (now (text .entry)))) (length (now (out .entry))) .written)
-        (now (out .entry)) ⌝ }
+    ensures { λ r. ⌜ left r (now (out .exit)) ≡ exit (writtenIn (searchText (sheetOf (now (text .entry)))) (length (now (out .entry)))) (now (out .entry)) ⌝ }
 {
     let mut seeds0 = [0u8; 512];
     let mut seeds1 = [0u8; 512];
@@ -130,15 +128,5 @@ pub(crate) fn solve(text: &[u8], n: u16, t: u64, expander: u64, count: u16, out:
         &mut list,
         &mut printed,
     );
-    if out.len() < end {
-        return Reply {
-            number: 11,
-            length: 0,
-        };
-    }
-    copy(&printed[..end], out, 0);
-    Reply {
-        number: 0,
-        length: end as u64,
-    }
+    write_text(&printed[..end], out)
 }

@@ -5,14 +5,32 @@ use crate::answer_lines::write_refused;
 use calls::Reply;
 use fields::decimal_length;
 use fields::has_room;
+use places::copy;
 ghost use mathlib.Core.Path.{_≡_};
 ghost use lib.ListN.{length};
 ghost use Rattle.places.specs.Places.{putAt};
 ghost use Rattle.calls.specs.Outcome.{exit, left};
 ghost use Rattle.fields.specs.Field.{packedLine, placeBehind};
-ghost use Rattle.exam_lines.specs.Lines.{prefixLine, heavyLine, refusedOutcome};
+ghost use Rattle.exam_lines.specs.Lines.{prefixLine, heavyLine, writtenIn, refusedOutcome};
 
 mod answer_lines;
+
+// Writes a text into the beginning of `out`; refuses with 11 where it does not fit.
+pub fn write_text(text: &[u8], out: &mut [u8]) -> Reply
+    ensures { λ r. ⌜ left r (now (out .exit)) ≡ exit (writtenIn (now (text .entry)) (length (now (out .entry)))) (now (out .entry)) ⌝ }
+{
+    if out.len() < text.len() {
+        return Reply {
+            number: 11,
+            length: 0,
+        };
+    }
+    copy(text, out, 0);
+    Reply {
+        number: 0,
+        length: text.len() as u64,
+    }
+}
 
 // Writes the line `refused` and the number; refuses with 11 where it does not fit.
 pub fn refused_line(number: u64, out: &mut [u8]) -> Reply

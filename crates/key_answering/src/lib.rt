@@ -3,12 +3,12 @@ use crate::page::write_page;
 use bits::packed_length;
 use calls::Reply;
 use exam_lines::refused_line;
+use exam_lines::write_text;
 use exam_reading::read_key_line;
 use exam_reading::read_line;
 use expander::Choice;
 use expander::Expander;
 use nodes::public_share_length;
-use places::copy;
 ghost use mathlib.Core.Path.{_≡_};
 ghost use mathlib.Core.Bool.{true};
 ghost use Prim.Native.Nat.{_≤_};
@@ -61,17 +61,7 @@ fn print(text: &[u8], place: usize, n: u16, number: u64, e: Expander, out: &mut 
     let mut share = [0u8; 776];
     let mut printed = [0u8; 10425];
     let end = print_line(text, place, n, number, e, &mut share, &mut printed);
-    if out.len() < end {
-        return Reply {
-            number: 11,
-            length: 0,
-        };
-    }
-    copy(&printed[..end], out, 0);
-    Reply {
-        number: 0,
-        length: end as u64,
-    }
+    write_text(&printed[..end], out)
 }
 
 // Writes the whole output for a text: the page of its line, or the line of the refusal; refuses with 11 where it does not fit.

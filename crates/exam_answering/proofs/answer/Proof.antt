@@ -8,10 +8,8 @@ use borrow.Author.Tests.{not-true, not-false, ltb-true, ltb-false}
 use lib.ListN.{length}
 use Rattle.calls.specs.Bounds.{mostThreshold, outside}
 use Rattle.calls.proofs.Decisions.{bounds}
-use Rattle.calls.proofs.Judged.{replied}
 use Rattle.expander.specs.Expander.{isExpander}
 use Rattle.exam_text.specs.Sheet.{expanderNumber, Within}
-use Rattle.exam_answering.specs.Exam.{examOutcome}
 use Rattle.exam_text.specs.Reader.{isSheet, sheetOf, SheetSays}
 use Rattle.exam_text.proofs.ReaderExact.{sheet-within}
 use Rattle.exam_answering.proofs.ExamCauses.{no-sheet, no-bits, bad-threshold, no-expander, last-cause, refused-reply}
@@ -137,7 +135,7 @@ returns-5 c =
     let known = sym (answered e) ∙ not-false _ (x .if4 .left) in
     let t-in = bounds mostThreshold (sheetOf (text e) .t) (inside g) in
     let same = search-answer (sheetOf (text e)) (within e) (from f) known (t-in .0) (t-in .1) in
-    replied (out e) (examOutcome (text e) (length (out e))) (rw (last-cause (text e) (length (out e)) (read e) (from f) (to f) (inside g) known, ← same) (s .solve .ensures))
+    rw (last-cause (text e) (length (out e)) (read e) (from f) (to f) (inside g) known, ← same) (s .solve .ensures)
 
 pub answer-spec : {M : Type 1} → statement M
 answer-spec =
