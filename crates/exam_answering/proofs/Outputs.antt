@@ -1,11 +1,13 @@
 -- The calls `refused_line` and `respond`: the numbers that are due and what is written.
 use Prim.Native.Nat.{ℕ, _≤_, _<_}
 use native.Mathlib.Omega.{arith}
-use mathlib.Core.Path.{_≡_, ap, _∙_}
+use native.Mathlib.Decide.{decLt}
+use mathlib.Core.Path.{_≡_, sym, ap, _∙_}
 use mathlib.Core.Logic.{_≢_, _⊎_, inl, inr}
 use mathlib.Core.List.{List, [], _∷_, _++_}
 use borrow.Author.Tests.{ltb-false, le-ltb, ne-eqb}
-use lib.ListN.{length, drop, length-append}
+use lib.ListN.{length, take, drop, length-append}
+use lib.Seq.{take-all, length-take-le}
 use Rattle.places.specs.Places.{overlay}
 use Rattle.places.proofs.Places.{overlay-nil}
 use Rattle.calls.specs.Bounds.{spaceCause}
@@ -19,8 +21,10 @@ use Rattle.exam_answering.specs.AnswerText.{answerText}
 use Rattle.exam_lines.specs.Lines.{writtenIn, refusedText, outputFor, refusedOutcome}
 use Rattle.exam_answering.specs.Exam.{examCauses, examOutcome, answerSpace, output, respondOutcome}
 use Rattle.exam_text.proofs.TextLengths.{decimal-length}
+use Rattle.exam_text.proofs.SheetTests.{too-long}
 use Rattle.exam_answering.proofs.Exam.{exam-due, exam-answered}
 use Rattle.exam_answering.proofs.ExamTheorems.{exam-numbers}
+use Rattle.exam_answering.proofs.ExamCauses.{no-sheet}
 
 -- ---- a text written where it fits
 
@@ -154,3 +158,17 @@ module _ (bytes : List ℕ) where
   pub respond-enough : (room : ℕ) → answerSpace ≤ room → respondOutcome bytes room ≡ accepted (output bytes)
   unfolding respondOutcome
   respond-enough room enough = rw (le-ltb room (length (output bytes)) (omega (arith, output-most)))
+
+-- ---- a text that is cut
+
+long-output : (bytes : List ℕ) → 4096 < length bytes → output bytes ≡ refusedText 10
+unfolding output
+long-output bytes h = rw (no-sheet bytes answerSpace (too-long bytes h))
+
+-- The first m bytes of a text, 4,097 or more, have the output of the whole text: a program that reads no more prints the same.
+pub cut-output : (m : ℕ) → 4096 < m → (bytes : List ℕ) → output (take m bytes) ≡ output bytes
+cut-output m h bytes =
+    elim (decLt m (length bytes)) [
+      | yes l ↦ long-output (take m bytes) (omega (arith, length-take-le m bytes (omega arith))) ∙ sym (long-output bytes (omega arith))
+      | no l ↦ ap output (take-all m bytes (omega arith))
+    ]

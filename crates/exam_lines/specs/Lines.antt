@@ -31,7 +31,7 @@ refusedWord = 114 ∷ 101 ∷ 102 ∷ 117 ∷ 115 ∷ 101 ∷ 100 ∷ []
 abbrev pub refusedText : ℕ → List ℕ
 refusedText k = refusedWord ++ (space ∷ decimal k ++ (newline ∷ []))
 
--- ---- `refused_line`
+-- ---- `write_text` and `refused_line`
 
 -- a text written where it fits, and 11 where it does not
 abbrev pub writtenIn : List ℕ → ℕ → Outcome

@@ -1,4 +1,4 @@
-// The decimal fields of a first line: a number of one to five digits and the character behind it.
+// The decimal fields of a first line or of a key line: a number of one to five digits and the character behind it.
 use places::byte_at;
 ghost use mathlib.Core.Path.{_≡_};
 ghost use mathlib.Core.Bool.{true};

@@ -33,7 +33,7 @@ pub struct LineRead {
     pub seed1: [u8; 16],
 }
 
-// What the text of a key says: whether it is one, its two numbers, and the place of its string and seeds; all 0 where it is not.
+// What the text of a key line says: whether it is one, its two numbers, and the place of its string and seeds; all 0 where it is not.
 pub struct KeyLineRead {
     pub is_key_line: bool,
     pub n: u16,

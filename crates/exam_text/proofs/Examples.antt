@@ -1,4 +1,4 @@
--- Computed facts that pin the definitions: numbers and bytes as text, sheet D read from its text, and texts that are refused.
+-- Computed facts that pin the definitions: numbers and bytes as text, sheet D and a key line read from their texts, and texts that are refused.
 use Prim.Native.Nat.{ℕ, _-_}
 use mathlib.Core.Path.{_≡_, refl}
 use mathlib.Core.Bool.{true, false}
@@ -8,6 +8,7 @@ use lib.ListN.{length, take, drop, replicate}
 use Rattle.bits.specs.Strings.{Bits}
 use Rattle.exam_text.specs.Characters.{binary, hexadecimal, decimalIn, decimal}
 use Rattle.exam_text.specs.Sheet.{Line, Sheet, linesText, text}
+use Rattle.exam_text.specs.KeyLine.{KeyLine, keyLineText, isKeyLine, keyLineOf, readKeyLine}
 use Rattle.exam_text.specs.Reader.{leading, numberAfter, isFirstLine, expanderOf, afterFirstLine, areBits, areHex, bytesRead, isLine, lineOf, areLines, linesOf, isSheet, sheetOf, readSheet}
 
 -- opens the definitions that write a text
@@ -142,3 +143,25 @@ empties m = linesText (replicate m (line []))
 pub many-lines : (isSheet (48 ∷ 32 ∷ 49 ∷ 32 ∷ 51 ∷ 50 ∷ 10 ∷ empties 32) ≡ true) × (isSheet (48 ∷ 32 ∷ 49 ∷ 32 ∷ 51 ∷ 51 ∷ 10 ∷ empties 33) ≡ false)
 unfolding writes reads
 many-lines = (refl, refl)
+
+-- ---- a key line
+
+-- A of document 01 as a key line: n = 1, expander 2, the string `1`, seeds of zeros but for a first byte 01
+abbrev keyA : KeyLine
+keyA = record {
+  n = 1;
+  expander = 2;
+  line = record { string = true ∷ []; seed0 = replicate 16 0; seed1 = 1 ∷ replicate 15 0 };
+}
+
+pub key-line-A : keyLineText keyA
+    ≡ 49 ∷ 32 ∷ 50 ∷ 32 ∷ 49 ∷ 32 ∷ 48 ∷ 48 ∷ 48 ∷ 48 ∷ 48 ∷ 48 ∷ 48 ∷ 48 ∷ 48 ∷ 48 ∷ 48 ∷ 48 ∷ 48 ∷ 48 ∷ 48 ∷ 48 ∷ 48 ∷ 48 ∷ 48 ∷ 48 ∷ 48 ∷ 48 ∷
+    48 ∷ 48 ∷ 48 ∷ 48 ∷ 48 ∷ 48 ∷ 48 ∷ 48 ∷ 48 ∷ 48 ∷ 32 ∷ 48 ∷ 49 ∷ 48 ∷ 48 ∷ 48 ∷ 48 ∷ 48 ∷ 48 ∷ 48 ∷ 48 ∷ 48 ∷ 48 ∷ 48 ∷ 48 ∷ 48 ∷ 48 ∷ 48 ∷
+    48 ∷ 48 ∷ 48 ∷ 48 ∷ 48 ∷ 48 ∷ 48 ∷ 48 ∷ 48 ∷ 48 ∷ 48 ∷ 48 ∷ 48 ∷ 48 ∷ 48 ∷ 10 ∷ []
+unfolding writes keyLineText
+key-line-A = refl
+
+-- and read from its text
+pub key-line-A-read : readKeyLine (keyLineText keyA) ≡ some keyA
+unfolding writes reads keyLineText isKeyLine keyLineOf readKeyLine
+key-line-A-read = refl

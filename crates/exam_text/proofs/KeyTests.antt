@@ -67,6 +67,7 @@ module _ (t : List ℕ) (b₁ : Bool) (x₁ h₁ : ℕ) (f₁ : FieldRead t 0 sp
           n-read = f₁ .says e₁ .number-read;
           expander-read = f₂ .says e₂ .number-read ∙ rw at-second;
           n-most = short;
+          placed = at-third;
           stands = one-stands t x₁ h₂ short e;
           line-read = one-placed t x₁ h₂ short e ∙ rw (f₁ .says e₁ .number-read, at-third);
         }

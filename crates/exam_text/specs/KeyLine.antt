@@ -4,7 +4,7 @@ use mathlib.Core.Path.{_≡_}
 use mathlib.Core.Bool.{Bool, true, cond, _&&_}
 use mathlib.Core.List.{List, _∷_, _++_}
 use mathlib.Core.Option.{Option, none, some}
-use lib.ListN.{length}
+use lib.ListN.{length, drop}
 use lib.Dec.{leb}
 use Rattle.places.specs.Places.{Bytes}
 use Rattle.exam_text.specs.Characters.{space, decimal}
@@ -49,5 +49,6 @@ pub record KeyLineSays (cs : List ℕ) (n expander place : ℕ) : Type 0 where
   pub n-read : n ≡ keyLineOf cs .n
   pub expander-read : expander ≡ keyLineOf cs .expander
   pub n-most : n ≤ 32
+  pub placed : drop place cs ≡ third cs
   pub stands : hasLine n place cs ≡ true
   pub line-read : lineAt n place cs ≡ keyLineOf cs .line

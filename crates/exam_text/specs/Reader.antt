@@ -44,7 +44,7 @@ behind cs = drop (suc (length (leading cs))) cs
 
 -- ---- the first line
 
--- the text from its second, third and fourth number on
+-- what stands behind its first, its second and its third number
 abbrev pub second : List ℕ → List ℕ
 second cs = behind cs
 

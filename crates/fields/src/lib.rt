@@ -1,4 +1,4 @@
-// The fields of a line, each with the one character behind it. A field that has no room is not written at all.
+// The fields of a line, each with the one character behind it. A field that has no room is not written at all, and the place itself is given back.
 use crate::decimal::put;
 use crate::decimal::write_decimal;
 use crate::strings::write_bits;

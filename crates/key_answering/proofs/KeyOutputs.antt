@@ -4,11 +4,12 @@ use native.Mathlib.Omega.{arith}
 use native.Mathlib.Decide.{decLt}
 use mathlib.Core.Path.{_≡_, refl, sym, ap, _∙_, subst}
 use mathlib.Core.Bool.{Bool, true, false, not}
-use mathlib.Core.List.{List, [], _∷_}
+use mathlib.Core.List.{List, [], _∷_, _++_}
 use mathlib.Core.Logic.{_≢_, _⊎_, inl, inr}
 use mathlib.Core.Option.{none, some}
 use borrow.Author.Tests.{le-ltb, ne-eqb}
-use lib.ListN.{length, length-append}
+use lib.ListN.{length, take, length-append}
+use lib.Seq.{take-all, length-take-le}
 use Rattle.calls.specs.Bounds.{mostBits, Outside, outside, lengthCause, expanderCause}
 use Rattle.calls.specs.Causes.{Cause, cause, Due}
 use Rattle.calls.specs.Outcome.{Outcome, accepted, judged}
@@ -19,10 +20,12 @@ use Rattle.expander.specs.declared.Expander.{Expander}
 use Rattle.expander.specs.declared.Choice.{Choice}
 use Rattle.expander.specs.declared.Choice.the-variants.{Known, Unknown}
 use Rattle.expander.proofs.Chosen.{unnamed, unnamed-test}
-use Rattle.exam_text.specs.Characters.{newline, decimal}
+use Rattle.exam_text.specs.Characters.{space, newline, decimal}
+use Rattle.exam_text.specs.Sheet.{lineText}
 use Rattle.exam_text.specs.KeyLine.{KeyLine, keyLineText, KeyWithin, isKeyLine, keyLineOf, readKeyLine}
 use Rattle.exam_text.proofs.KeyExact.{key-line-text, read-printed, key-line-within, not-a-key-line}
 use Rattle.exam_text.proofs.TextLengths.{decimal-length}
+use Rattle.exam_text.proofs.LinesText.{line-length}
 use Rattle.exam_lines.specs.Lines.{refusedText}
 use Rattle.key_answering.specs.KeyPage.{pageSpace}
 use Rattle.key_answering.specs.KeyAnswer.{KeyLineWith, keyLineCauses, linePage, pageRead, keyLineOutcome, keyOutput, respondOutcome}
@@ -106,6 +109,13 @@ key-output-is bytes = go (isKeyLine bytes) refl
           | no l ↦ chosen e (omega arith) (choiceOf (keyLineOf bytes .expander)) refl
         ]
 
+-- The output for the text of a key line of 1 to 32 bits with expander 1 or 2 is its page.
+pub key-output-page : (k : KeyLine) → KeyWithin k → 1 ≤ k .n → (x : Expander) → choiceOf (k .expander) ≡ Known x → keyOutput (keyLineText k) ≡ linePage (k .n) (k .line) x
+key-output-page k w from x named =
+    let r = key-line-text k w in
+    let same : keyLineOf (keyLineText k) ≡ k = r .1 in
+    rw same at (known-output (keyLineText k) (r .0) (rw same from) (rw same (w .n-most)) x (rw same named))
+
 key-output-most : (bytes : List ℕ) → length (keyOutput bytes) ≤ pageSpace
 key-output-most bytes = go (key-output-is bytes)
   where
@@ -123,3 +133,40 @@ key-output-most bytes = go (key-output-is bytes)
 pub key-respond-enough : (bytes : List ℕ) (room : ℕ) → pageSpace ≤ room → respondOutcome bytes room ≡ accepted (keyOutput bytes)
 unfolding respondOutcome
 key-respond-enough bytes room enough = rw (le-ltb room (length (keyOutput bytes)) (omega (arith, key-output-most bytes)))
+
+-- ---- a text that is cut
+
+-- A key line has at most 108 characters.
+line-short : (bytes : List ℕ) → isKeyLine bytes ≡ true → length bytes ≤ 108
+unfolding keyLineText
+line-short bytes e =
+    let r = key-line-within bytes e in
+    let k = keyLineOf bytes in
+    let n = decimal (k .n) in
+    let x = decimal (k .expander) in
+    let line = lineText (k .line) in
+    omega (
+      arith,
+      ap length (r .1),
+      length-append n (space ∷ x ++ (space ∷ line)),
+      length-append x (space ∷ line),
+      decimal-length 1 20 (k .n) (omega (arith, r .0 .n-most)),
+      decimal-length 4 20 (k .expander) (r .0 .expander-digits),
+      line-length (k .n) (k .line) (r .0 .n-bits) (r .0 .seeds),
+      r .0 .n-most,
+    )
+
+long-output : (bytes : List ℕ) → 108 < length bytes → keyOutput bytes ≡ refusedText 10
+long-output bytes h = go (isKeyLine bytes) refl
+  where
+    go : (b : Bool) → isKeyLine bytes ≡ b → keyOutput bytes ≡ refusedText 10
+    go true e = absurd (omega (arith, line-short bytes e))
+    go false e = none-output bytes e
+
+-- The first m bytes of a text, 109 or more, have the output of the whole text: a program that reads no more prints the same.
+pub key-cut-output : (m : ℕ) → 108 < m → (bytes : List ℕ) → keyOutput (take m bytes) ≡ keyOutput bytes
+key-cut-output m h bytes =
+    elim (decLt m (length bytes)) [
+      | yes l ↦ long-output (take m bytes) (omega (arith, length-take-le m bytes (omega arith))) ∙ sym (long-output bytes (omega arith))
+      | no l ↦ ap keyOutput (take-all m bytes (omega arith))
+    ]

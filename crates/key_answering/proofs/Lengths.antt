@@ -20,15 +20,15 @@ use Rattle.point.specs.Evaluation.{bitOf}
 use Rattle.point.specs.PublicShare.{joined, controlBytes, levelStart, readCorrection}
 use Rattle.exam_text.specs.Characters.{space, newline, glyph, binary, hexadecimal, decimalIn, decimal}
 use Rattle.exam_text.proofs.LineFields.{binary-length, hexadecimal-length}
-use Rattle.key_answering.specs.KeyPage.{spaced, ended, controlWord, levelWord, prefixWord, besideWord, controlLine, correctionText, levelLine, sharesLine, sharesAt, pathLines, page, pageSpace}
+use Rattle.key_answering.specs.KeyPage.{spaced, closed, controlWord, levelWord, prefixWord, besideWord, controlLine, correctionText, levelLine, sharesLine, sharesLineAt, pathLines, page, pageSpace}
 use Rattle.key_answering.proofs.Joined.{lines-most}
 
 -- A field is one character longer with what is behind it.
 spaced-length : (v : List ℕ) → length (spaced v) ≡ length v + 1
 spaced-length v = length-append v (space ∷ [])
 
-ended-length : (v : List ℕ) → length (ended v) ≡ length v + 1
-ended-length v = length-append v (newline ∷ [])
+closed-length : (v : List ℕ) → length (closed v) ≡ length v + 1
+closed-length v = length-append v (newline ∷ [])
 
 -- A number has at most 20 digits.
 digits-most : (m x : ℕ) → length (decimalIn m x) ≤ m
@@ -50,9 +50,9 @@ correction-most n k share =
     let c = readCorrection n share k in
     omega (
       arith,
-      length-append (spaced (hexadecimal (c .seed))) (ended (hexadecimal (little 8 (c .payload)))),
+      length-append (spaced (hexadecimal (c .seed))) (closed (hexadecimal (little 8 (c .payload)))),
       spaced-length (hexadecimal (c .seed)),
-      ended-length (hexadecimal (little 8 (c .payload))),
+      closed-length (hexadecimal (little 8 (c .payload))),
       hexadecimal-length (c .seed),
       hexadecimal-length (little 8 (c .payload)),
       window-length 16 (levelStart n k) share,
@@ -84,7 +84,7 @@ shares-most word q x y short bits =
     let s = spaced (binary q) in
     let a = spaced (decimal x) in
     let b = spaced (decimal y) in
-    let z = ended (decimal (field .add x y)) in
+    let z = closed (decimal (field .add x y)) in
     omega (
       arith,
       short,
@@ -98,7 +98,7 @@ shares-most word q x y short bits =
       binary-length q,
       number-most x,
       number-most y,
-      ended-length (decimal (field .add x y)),
+      closed-length (decimal (field .add x y)),
       digits-most 20 (field .add x y),
     )
 
@@ -109,8 +109,8 @@ control-most n share to =
     omega (
       arith,
       to,
-      length-append (spaced controlWord) (ended (hexadecimal bytes)),
-      ended-length (hexadecimal bytes),
+      length-append (spaced controlWord) (closed (hexadecimal bytes)),
+      closed-length (hexadecimal bytes),
       hexadecimal-length bytes,
       length-take (controlBytes n) share,
     )
@@ -122,9 +122,9 @@ module _ (e : Expander) (n : ℕ) (s : Bits) (seed0 seed1 share : List ℕ) (bit
       let own = p ▹ bitOf s k in
       let other = p ▹ not (bitOf s k) in
       let short : length p ≡ k = length-take-le k s (omega arith) in
-      let a : length (sharesAt e n s seed0 seed1 share prefixWord own) ≤ 103 = shares-most prefixWord own _ _ (omega arith) (omega (arith, short, append-length p (bitOf s k))) in
-      let b : length (sharesAt e n s seed0 seed1 share besideWord other) ≤ 103 = shares-most besideWord other _ _ (omega arith) (omega (arith, short, append-length p (not (bitOf s k)))) in
-      omega (arith, a, b, length-append (sharesAt e n s seed0 seed1 share prefixWord own) (sharesAt e n s seed0 seed1 share besideWord other))
+      let a : length (sharesLineAt e n s seed0 seed1 share prefixWord own) ≤ 103 = shares-most prefixWord own _ _ (omega arith) (omega (arith, short, append-length p (bitOf s k))) in
+      let b : length (sharesLineAt e n s seed0 seed1 share besideWord other) ≤ 103 = shares-most besideWord other _ _ (omega arith) (omega (arith, short, append-length p (not (bitOf s k)))) in
+      omega (arith, a, b, length-append (sharesLineAt e n s seed0 seed1 share prefixWord own) (sharesLineAt e n s seed0 seed1 share besideWord other))
 
   -- The space for a page is enough.
   pub page-most : length (page e n s seed0 seed1 share) ≤ pageSpace

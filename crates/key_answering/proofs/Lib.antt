@@ -5,3 +5,4 @@ pub mod LineKey
 pub mod Responding
 pub mod KeyOutputs
 pub mod Sums
+pub mod Examples

@@ -19,7 +19,7 @@ use Rattle.point.specs.Evaluation.{bitOf, share, shareAt}
 use Rattle.point.specs.Instance.{scheme}
 use Rattle.point.specs.PublicShare.{readCorrection}
 use Rattle.point.proofs.Local.{share-local}
-use Rattle.key_answering.specs.KeyPage.{sharesLine, sharesAt}
+use Rattle.key_answering.specs.KeyPage.{sharesLine, sharesLineAt}
 
 -- Bit k of the string is that of its bytes.
 pub own-bit : (n k : ℕ) (string : List ℕ) → k < n → getD (bitsOf string) k false ≡ bitOf (unpack n string) k
@@ -62,6 +62,6 @@ module _ (n k : ℕ) (string : List ℕ) (bit : Bool) (h : k < n) (to : n ≤ 32
     pub side-line : (e : Expander) (seed0 seed1 bytes word : List ℕ) (x y : ℕ)
         → x ≡ share (scheme e) (readCorrection n bytes) seed0 false (bitOf (bitsOf (take w child))) (k + 1)
         → y ≡ share (scheme e) (readCorrection n bytes) seed1 true (bitOf (bitsOf (take w child))) (k + 1)
-        → sharesLine word (unpack (k + 1) (take w child)) x y ≡ sharesAt e n (unpack n string) seed0 seed1 bytes word q
+        → sharesLine word (unpack (k + 1) (take w child)) x y ≡ sharesLineAt e n (unpack n string) seed0 seed1 bytes word q
     side-line e seed0 seed1 bytes word x y zero one =
         rw (read-back, zero ∙ share-read (scheme e) (readCorrection n bytes) seed0 false, one ∙ share-read (scheme e) (readCorrection n bytes) seed1 true)

@@ -1,9 +1,9 @@
 -- The two shares of a page's lines add to 1 at the prefixes of the string, and to 0 beside them.
 use Prim.Native.Nat.{ℕ, zero, suc, _+_, _≤_, _<_}
 use native.Mathlib.Omega.{arith}
-use mathlib.Core.Path.{_≡_, refl, sym, ap, _∙_}
+use mathlib.Core.Path.{_≡_, refl, sym, ap, ap₂, _∙_}
 use mathlib.Core.Bool.{Bool, true, false, not, cond}
-use mathlib.Core.List.{List, [], _∷_}
+use mathlib.Core.List.{List, [], _∷_, _++_}
 use lib.ListN.{length, take}
 use lib.Seq.{length-take-le}
 use Rattle.places.specs.Places.{Bytes}
@@ -22,6 +22,8 @@ use Rattle.point.proofs.Prefix.{prefix-correct}
 use Rattle.point.proofs.Honest.{report-read}
 use Rattle.point.proofs.Instance.{scheme-lawful, p-fits}
 use Rattle.keymaker.specs.Key.{keyBytes}
+use Rattle.exam_text.specs.Characters.{binary, decimal}
+use Rattle.key_answering.specs.KeyPage.{spaced, closed, prefixWord, besideWord, sharesLine, pathLines}
 
 -- ---- the prefixes of a page
 
@@ -69,12 +71,12 @@ module _ (e : Expander) (n : ℕ) (s : Bits) (seed0 seed1 : List ℕ) (bits : le
   page-sums q some short =
       rw (shared false q short, shared true q short) (prefix-correct (scheme e) (scheme-lawful e) 1 (omega arith) seed0 seed1 sized0 sized1 s q some (rw bits short))
 
-  -- the sum that a page's line of the prefix q ends with
-  abbrev pub printedSum : Bits → ℕ
+  -- their sum
+  abbrev printedSum : Bits → ℕ
   printedSum q = field .add (printedShare false q) (printedShare true q)
 
-  -- For each bit of the string the first of its two lines ends with 1, and the second with 0.
-  pub path-sums : (k : ℕ) → k < n → (printedSum (take k s ▹ bitOf s k) ≡ 1) × (printedSum (take k s ▹ not (bitOf s k)) ≡ 0)
+  -- At the prefix that ends with bit k the shares add to 1, and beside it to 0.
+  path-sums : (k : ℕ) → k < n → (printedSum (take k s ▹ bitOf s k) ≡ 1) × (printedSum (take k s ▹ not (bitOf s k)) ≡ 0)
   path-sums k h =
       let size : (x : Bool) → length (take k s ▹ x) ≡ k + 1 = λ x. append-length (take k s) x ∙ ap (λ (m : ℕ). m + 1) (length-take-le k s (omega (arith, bits, h))) in
       let own = take k s ▹ bitOf s k in
@@ -82,3 +84,17 @@ module _ (e : Expander) (n : ℕ) (s : Bits) (seed0 seed1 : List ℕ) (bits : le
         page-sums own (omega (arith, size (bitOf s k))) (omega (arith, h, size (bitOf s k))) ∙ ap (λ (b : Bool). cond b 1 0) (own-prefix s k (omega (arith, bits, h))),
         page-sums other (omega (arith, size (not (bitOf s k)))) (omega (arith, h, size (not (bitOf s k)))) ∙ ap (λ (b : Bool). cond b 1 0) (other-prefix s k (omega (arith, bits, h))),
       )
+
+  -- the line of a prefix with both servers' shares and the sum z
+  abbrev pub lineEndingWith : ℕ → List ℕ → Bits → List ℕ
+  lineEndingWith z word q =
+      spaced word ++ (spaced (binary q) ++ (spaced (decimal (printedShare false q)) ++ (spaced (decimal (printedShare true q)) ++ closed (decimal z))))
+
+  -- Of the two lines of a page for each bit of the string, the first ends with 1 and the second with 0.
+  pub path-lines : (k : ℕ) → k < n
+      → pathLines e n s seed0 seed1 (keyBytes n (pack s) seed0 seed1 e) k
+      ≡ lineEndingWith 1 prefixWord (take k s ▹ bitOf s k) ++ lineEndingWith 0 besideWord (take k s ▹ not (bitOf s k))
+  unfolding sharesLine
+  path-lines k h =
+      let sums = path-sums k h in
+      ap₂ (λ (x y : ℕ). lineEndingWith x prefixWord (take k s ▹ bitOf s k) ++ lineEndingWith y besideWord (take k s ▹ not (bitOf s k))) (sums .0) (sums .1)

@@ -1,4 +1,4 @@
--- The call `respond` of the program `key`: the causes are those of an exam text.
+-- The call `respond` of the program `key`: 10 where the text is no key line, else 1 or 3, else the page.
 use Prim.Native.Nat.{ℕ}
 use mathlib.Core.Path.{_≡_}
 use mathlib.Core.Bool.{Bool, true, false, not}

@@ -17,12 +17,12 @@ use Rattle.exam_text.specs.Characters.{space, newline, binary, hexadecimal, dec
 
 -- ---- lines
 
--- a field with the space behind it, and the last field of a line
+-- a field with the space behind it, and the last field of a line with its newline
 abbrev pub spaced : List ℕ → List ℕ
 spaced v = v ++ (space ∷ [])
 
-abbrev pub ended : List ℕ → List ℕ
-ended v = v ++ (newline ∷ [])
+abbrev pub closed : List ℕ → List ℕ
+closed v = v ++ (newline ∷ [])
 
 -- the words `control`, `level`, `prefix` and `beside`
 abbrev pub controlWord : List ℕ
@@ -39,13 +39,13 @@ besideWord = 98 ∷ 101 ∷ 115 ∷ 105 ∷ 100 ∷ 101 ∷ []
 
 -- `control` and the control bytes
 unfoldable pub controlLine : List ℕ → List ℕ
-controlLine bytes = spaced controlWord ++ ended (hexadecimal bytes)
+controlLine bytes = spaced controlWord ++ closed (hexadecimal bytes)
 
 -- a seed correction and a payload correction
 unfoldable pub correctionText : Correction ℕ → List ℕ
-correctionText c = spaced (hexadecimal (c .seed)) ++ ended (hexadecimal (little 8 (c .payload)))
+correctionText c = spaced (hexadecimal (c .seed)) ++ closed (hexadecimal (little 8 (c .payload)))
 
--- `level`, the number of the level, from 1 on, its left and its right control bit, and its corrections
+-- `level`, the number of the level, from 1 on, its left and its right bit correction, and its seed and payload correction
 unfoldable pub levelLine : ℕ → Correction ℕ → List ℕ
 levelLine k c =
     spaced levelWord
@@ -53,25 +53,25 @@ levelLine k c =
 
 -- a word, a prefix, server 0's share at it, server 1's, and their sum
 unfoldable pub sharesLine : List ℕ → Bits → ℕ → ℕ → List ℕ
-sharesLine word q x y = spaced word ++ (spaced (binary q) ++ (spaced (decimal x) ++ (spaced (decimal y) ++ ended (decimal (field .add x y)))))
+sharesLine word q x y = spaced word ++ (spaced (binary q) ++ (spaced (decimal x) ++ (spaced (decimal y) ++ closed (decimal (field .add x y)))))
 
 -- ---- the page
 
 -- For a string s of n bits, its two root seeds and its public share, under an expander.
-module _ (e : Expander) (n : ℕ) (s : Bits) (seed0 seed1 share : List ℕ) where
+module _ (e : Expander) (n : ℕ) (s : Bits) (seed0 seed1 publicBytes : List ℕ) where
   -- the line of a prefix
-  abbrev pub sharesAt : List ℕ → Bits → List ℕ
-  sharesAt word q =
-      sharesLine word q (shareAt (scheme e) (readCorrection n share) seed0 false q) (shareAt (scheme e) (readCorrection n share) seed1 true q)
+  abbrev pub sharesLineAt : List ℕ → Bits → List ℕ
+  sharesLineAt word q =
+      sharesLine word q (shareAt (scheme e) (readCorrection n publicBytes) seed0 false q) (shareAt (scheme e) (readCorrection n publicBytes) seed1 true q)
 
   -- the prefix that ends with bit k of the string, and the one with the other bit in its place
   abbrev pub pathLines : ℕ → List ℕ
-  pathLines k = sharesAt prefixWord (take k s ▹ bitOf s k) ++ sharesAt besideWord (take k s ▹ not (bitOf s k))
+  pathLines k = sharesLineAt prefixWord (take k s ▹ bitOf s k) ++ sharesLineAt besideWord (take k s ▹ not (bitOf s k))
 
   -- the control bytes; a line for each level; two lines for each bit of the string
   unfoldable pub page : List ℕ
-  page = controlLine (take (controlBytes n) share) ++ (joined n (λ k. levelLine k (readCorrection n share k)) ++ joined n pathLines)
+  page = controlLine (take (controlBytes n) publicBytes) ++ (joined n (λ k. levelLine k (readCorrection n publicBytes k)) ++ joined n pathLines)
 
--- space that is enough for every page of at most 32 bits
+-- space that is enough for every page of at most 32 bits, counted with 20 digits for each number
 abbrev pub pageSpace : ℕ
 pageSpace = 10425

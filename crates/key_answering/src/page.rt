@@ -17,7 +17,7 @@ ghost use Rattle.places.specs.Places.{putAt, overlay};
 ghost use Rattle.bits.specs.Strings.{_▹_};
 ghost use Rattle.bits.specs.Packing.{packedLength, unpack};
 ghost use Rattle.point.specs.PublicShare.{joined, publicShareLength, readCorrection};
-ghost use Rattle.key_answering.specs.KeyPage.{levelLine, sharesAt, pathLines, page, pageSpace};
+ghost use Rattle.key_answering.specs.KeyPage.{levelLine, sharesLineAt, pathLines, page, pageSpace};
 
 // The word `prefix`.
 const PREFIX: [u8; 6] = [112, 114, 101, 102, 105, 120];
@@ -55,10 +55,10 @@ fn write_side(
     at: usize,
 ) -> usize
     requires { ⌜ (k < n) × (n ≤ 32) × (length (now string) ≡ packedLength n) ⌝ }
-    requires { ⌜ at + length (sharesAt e n (unpack n (now string)) seed0 seed1 (now share) (now word) (take k (unpack n (now string)) ▹ bit)) ≤ length (now out) ⌝ }
-    ensures { λ r. ⌜ r ≡ at + length (sharesAt e n (unpack n (now (string .entry))) seed0 seed1 (now (share .entry)) (now (word .entry))
+    requires { ⌜ at + length (sharesLineAt e n (unpack n (now string)) seed0 seed1 (now share) (now word) (take k (unpack n (now string)) ▹ bit)) ≤ length (now out) ⌝ }
+    ensures { λ r. ⌜ r ≡ at + length (sharesLineAt e n (unpack n (now (string .entry))) seed0 seed1 (now (share .entry)) (now (word .entry))
         (take k (unpack n (now (string .entry))) ▹ bit)) ⌝ }
-    ensures { λ _. ⌜ now (out .exit) ≡ putAt (now (out .entry)) at (sharesAt e n (unpack n (now (string .entry))) seed0 seed1 (now (share .entry))
+    ensures { λ _. ⌜ now (out .exit) ≡ putAt (now (out .entry)) at (sharesLineAt e n (unpack n (now (string .entry))) seed0 seed1 (now (share .entry))
         (now (word .entry)) (take k (unpack n (now (string .entry))) ▹ bit)) ⌝ }
 {
     let length = k + 1;

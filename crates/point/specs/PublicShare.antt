@@ -55,7 +55,7 @@ binaryDigit x i = eqb (x / 2 ^ i % 2) 1
 abbrev pub levelStart : ℕ → ℕ → ℕ
 levelStart n k = controlBytes n + 24 * k
 
--- the correction word of level k, for k below n; past that whatever stands in its place, and zeros where the bytes end
+-- the correction word of level k, for k below n; past that whatever stands in its place, and zeros for a part whose bytes are not all there
 unfoldable pub readCorrection : ℕ → List ℕ → ℕ → Correction ℕ
 readCorrection n bytes k = record {
   seed = window 16 (levelStart n k) bytes;

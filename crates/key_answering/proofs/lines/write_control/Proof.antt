@@ -2,7 +2,7 @@
 use borrow.Author.Needs.{needs}
 use Rattle.places.proofs.Places.{grown-start}
 use Rattle.exam_text.specs.Characters.{hexadecimal}
-use Rattle.key_answering.specs.KeyPage.{spaced, ended, controlWord, controlLine}
+use Rattle.key_answering.specs.KeyPage.{spaced, closed, controlWord, controlLine}
 use Rattle.fields.proofs.FieldChain.{grown-field, last-field}
 use Rattle.key_answering.proofs.lines.write_control.Statement.{statement}
 use Rattle.key_answering.proofs.lines.write_control.Tie as tie
@@ -15,7 +15,7 @@ returns c =
     let s = w .before .before .before .before .before in
     let a = s .args in
     let whole = controlLine (a .bytes .now) in
-    let bytes = ended (hexadecimal (a .bytes .now)) in
+    let bytes = closed (hexadecimal (a .bytes .now)) in
     last-field (a .out .now) (a .at) whole (s .pre) _ _ bytes
     (grown-field (a .out .now) (a .at) whole (s .pre) _ _ (spaced controlWord) bytes (grown-start (a .out .now) (a .at) whole) _ _ (w .write-word .ensures)) _ _
     (h .write-hex .ensures)

@@ -7,7 +7,7 @@ use Rattle.numbers.specs.Numbers.{little}
 use Rattle.numbers.proofs.Endian.{little-length}
 use Rattle.nodes.specs.NodeLayout.{correctionOf}
 use Rattle.exam_text.specs.Characters.{hexadecimal}
-use Rattle.key_answering.specs.KeyPage.{spaced, ended, correctionText}
+use Rattle.key_answering.specs.KeyPage.{spaced, closed, correctionText}
 use Rattle.fields.proofs.FieldChain.{grown-field, last-field}
 use Rattle.key_answering.proofs.lines.write_correction.Statement.{statement}
 use Rattle.key_answering.proofs.lines.write_correction.Tie as tie
@@ -25,7 +25,7 @@ returns c =
     let s = w .before .before .before .before in
     let a = s .args in
     let whole = correctionText (correctionOf (a .word)) in
-    let bytes = ended (hexadecimal (little 8 (a .word .payload))) in
+    let bytes = closed (hexadecimal (little 8 (a .word .payload))) in
     last-field (a .out .now) (a .at) whole (s .pre) _ _ bytes
     (grown-field (a .out .now) (a .at) whole (s .pre) _ _ (spaced (hexadecimal (a .word .seed))) bytes (grown-start (a .out .now) (a .at) whole) _ _ (g .write-hex .ensures)) _ _
     (rw (payload w) at (h .write-hex2 .ensures))

@@ -9,7 +9,7 @@ use Rattle.bits.specs.Packing.{packedLength, unpack}
 use Rattle.group.specs.Modular.{field}
 use Rattle.exam_text.specs.Characters.{space, binary, decimal}
 use Rattle.fields.specs.Field.{packedLine}
-use Rattle.key_answering.specs.KeyPage.{spaced, ended, sharesLine}
+use Rattle.key_answering.specs.KeyPage.{spaced, closed, sharesLine}
 use Rattle.fields.proofs.FieldChain.{grown-field, last-field}
 use Rattle.key_answering.proofs.lines.write_shares.Statement.{statement}
 use Rattle.key_answering.proofs.lines.write_shares.Tie as tie
@@ -26,7 +26,7 @@ returns c =
     let a = s .args in
     let q = unpack (a .k) (a .packed .now) in
     let whole = sharesLine (a .word .now) q (a .share0) (a .share1) in
-    let sum = ended (decimal (field .add (a .share0) (a .share1))) in
+    let sum = closed (decimal (field .add (a .share0) (a .share1))) in
     let second = spaced (decimal (a .share1)) in
     let first = spaced (decimal (a .share0)) in
     let string : packedLine (λ q. binary q ++ (space ∷ [])) (a .k) (a .packed .now) ≡ spaced (binary q) = rw (eq-eqb (length (a .packed .now)) (packedLength (a .k)) (s .pre .0)) in

@@ -5,7 +5,7 @@ use borrow.Author.Needs.{needs}
 use lib.ListN.{length, take}
 use Rattle.bits.specs.Strings.{_▹_}
 use Rattle.bits.specs.Packing.{packedLength, unpack}
-use Rattle.key_answering.specs.KeyPage.{sharesLine, sharesAt}
+use Rattle.key_answering.specs.KeyPage.{sharesLine, sharesLineAt}
 use Rattle.key_answering.proofs.Sides.{side-size, side-packed, side-line}
 use Rattle.key_answering.proofs.page.write_side.Statement.{statement}
 use Rattle.key_answering.proofs.page.write_side.Tie as tie
@@ -26,7 +26,7 @@ slice-aggregate-prefix c = c .before .packed-length .ensures ∙ sym (packed (c 
 line : (o : tie.After-shares-at2) → let p = o .before .before .before in let a = p .before .before .before .before .before .before .before .before .args in
     sharesLine (a .word .now) (unpack (a .k + 1) (take (p .packed-length .result) (p .before .before .write-child .last .1 .1 .1 .0))) (o .before .shares-at .result .first)
     (o .shares-at2 .result .first)
-    ≡ sharesAt (a .e) (a .n) (unpack (a .n) (a .string .now)) (a .seed0) (a .seed1) (a .share .now) (a .word .now) (take (a .k) (unpack (a .n) (a .string .now)) ▹ a .bit)
+    ≡ sharesLineAt (a .e) (a .n) (unpack (a .n) (a .string .now)) (a .seed0) (a .seed1) (a .share .now) (a .word .now) (take (a .k) (unpack (a .n) (a .string .now)) ▹ a .bit)
 line o =
     let p = o .before .before .before in
     let s = p .before .before .before .before .before .before .before .before in
