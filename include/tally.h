@@ -70,7 +70,7 @@ extern "C" {
 #endif
 
 // The version of this header and of the library beside it.
-#define TALLY_VERSION "0.1.0"
+#define TALLY_VERSION "0.2.0"
 
 // ---- numbers
 
