@@ -6,14 +6,19 @@
 // tally_combine. tally_search does the whole search where one program holds both servers' reports. tally_exam does all of it for an exam text,
 // and tally_respond writes that text's whole output, refusals too.
 //
+// This header needs C99 or later, or C++.
+//
 // What every call does:
 // - It reads and writes only what it is lent: each area is a pointer and a length in bytes.
-// - No pointer may be null, not even with length 0: TALLY_EMPTY can be lent there.
-// - An area that is written may not overlap any other area of the same call; areas that are only read may overlap each other.
+// - No pointer may be null, not even with length 0: TALLY_EMPTY can be lent there, and several times in one call.
+// - An area that is written may not overlap any other area of the same call; areas that are only read may overlap each other, and an area of
+//   length 0 overlaps none.
 // - It keeps nothing: no allocation, no state between calls, so calls from several threads are independent.
 // - It returns number 0 on success, with how many bytes were written from the beginning of an area; bytes past them are unchanged.
-// - It returns the lowest number of the table below that applies, but 10 before any other, with lengths 0, and every lent byte is then
-//   unchanged; with one exception: when tally_search refuses with 11, every byte of the record area becomes zero.
+// - Where it refuses, it returns the lowest number of the table below that applies, but 10 before any other, with lengths 0, and every lent
+//   byte is then unchanged; with one exception: when tally_search refuses with 11, every byte of the record area becomes zero.
+// - tally_respond refuses with 11 alone: where 10, 1, 2 or 3 applies, it writes the line that names the number, and returns 0 and that line's
+//   length.
 // - It takes stack for each bit of n: a search with n = 256 was measured at 194 KiB on x86-64, so a thread should have 256 KiB or more;
 //   tally_exam and tally_respond ran in 128 KiB.
 // - The archive is not instrumented: a caller's sanitizer sees the caller's own reads and writes, and the library's where they go through a
@@ -38,6 +43,8 @@
 // - A string of n bits, or a prefix, is packed in the fewest bytes, first bit highest, spare bits zero.
 // - A group number is below p = 2^64 - 2^32 + 1 and takes 8 bytes, least significant first.
 // - A seed has 16 bytes; several seeds stand one after the other, and so do several public shares, in the same order of reports.
+// - A public share is the control bits, two for each of n levels, left then right, level by level, packed in the fewest bytes, lowest bit first,
+//   spare bits zero; then for each level 16 bytes of seed correction and 8 of payload correction, a group number.
 // - A query is 2 bytes with the prefix length minus one, big-endian; 4 bytes with the count, big-endian; then the prefixes, strictly
 //   ascending.
 // - A share is one group number for each prefix of its query, in order.
@@ -63,7 +70,7 @@ extern "C" {
 #endif
 
 // The version of this header and of the library beside it.
-#define TALLY_VERSION "0.1.0"
+#define TALLY_VERSION "0.2.0"
 
 // ---- numbers
 
@@ -251,11 +258,16 @@ tally_combine_reply tally_combine(uint64_t n, uint64_t t,
 
 // Space that is enough for the record of a search over this many honest reports: for each prefix length k from 1 to n, a heading of 6 bytes
 // and TALLY_PACKED_LENGTH(k) + 8 bytes for each prefix, of which there are 2 at length 1 and then at most min(2^k, 2 * floor(reports / t)),
-// and no heading where there are none. It is 0 where n, t or the number of reports is outside its bounds, which the search refuses.
-// It is a proved function of the library, as is tally_list_space: neither is lent anything, and neither refuses.
+// and no heading where there are none. It is 0 where n, t or the number of reports is outside its bounds, which the search refuses; within them
+// it is never below 24, so that 0 means outside.
+// It is a proved function of the library, as is tally_list_space: neither is lent anything, and neither refuses. No arguments overflow: with
+// n = 256, t = 1 and 65,535 reports come the largest results, 803,460,126 for the record and 2,097,120 for the list, which fit a size_t of 32
+// bits. Both are calls and no constant expressions, so the two areas are allocated.
 uint64_t tally_record_space(uint64_t n, uint64_t t, uint64_t reports);
 
-// Space that is enough for the list of such a search: floor(reports / t) packed strings; 0 where an argument is outside its bounds.
+// Space that is enough for the list of such a search: floor(reports / t) packed strings, not cut to the 2^n strings that there are. It is 0 where
+// an argument is outside its bounds, and also where t is more than the reports, which is no error: the list is then empty, and TALLY_EMPTY can
+// be lent for it, since malloc(0) may be null.
 uint64_t tally_list_space(uint64_t n, uint64_t t, uint64_t reports);
 
 // Does the whole search: asks the first query, and then what combining answers, until the list is found or nothing is kept; the list is then
@@ -283,10 +295,11 @@ tally_found tally_search(uint64_t n, uint64_t t, uint64_t expander,
 tally_reply tally_exam(const uint8_t *text, size_t text_length,
                        uint8_t *out, size_t out_length);
 
-// Writes the whole output for an exam text: what tally_exam answers, or the line of its refusal with 10, 1, 2 or 3.
+// Writes the whole output for an exam text: what tally_exam answers, or the line of its refusal with 10, 1, 2 or 3. Where it writes that line it
+// returns number 0, with the line's length, while tally_exam returns the number.
 // Reads: the text, which need not end in a zero byte.
 // Writes: the output into out, without a zero byte at its end. TALLY_EXAM_SPACE bytes are always enough; every output has at least 8.
-// Refuses with 11 alone, out is too small for the whole output.
+// Refuses with 11 alone, out is too small for the whole output, whatever the text.
 tally_reply tally_respond(const uint8_t *text, size_t text_length,
                           uint8_t *out, size_t out_length);
 

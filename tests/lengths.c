@@ -1,5 +1,6 @@
 // For every string length: the lengths that tally.h gives as macros are those that the calls write and ask for, and for two strings that part at
-// their first bit, with t = 1, the space that the library names is what the search writes, byte for byte.
+// their first bit, with t = 1, the space that the library names is what the search writes, byte for byte. The largest and the least space are
+// those that tally.h names.
 #include <stdio.h>
 #include <stdlib.h>
 #include <string.h>
@@ -70,5 +71,9 @@ int main(void)
 {
     for (uint64_t n = 1; n <= TALLY_BITS_MOST; n++)
         search(n);
+    same("the largest tally_record_space", TALLY_BITS_MOST, 803460126, tally_record_space(TALLY_BITS_MOST, 1, TALLY_REPORTS_MOST));
+    same("the largest tally_list_space", TALLY_BITS_MOST, 2097120, tally_list_space(TALLY_BITS_MOST, 1, TALLY_REPORTS_MOST));
+    same("the least tally_record_space", 1, 24, tally_record_space(1, TALLY_THRESHOLD_MOST, 0));
+    same("tally_list_space, t above the reports", TALLY_BITS_MOST, 0, tally_list_space(TALLY_BITS_MOST, 2, 1));
     return EXIT_SUCCESS;
 }

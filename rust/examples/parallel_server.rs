@@ -1,10 +1,12 @@
 //! Each of two servers splits its reports among threads: a thread makes the share of one part, and the parts' shares are added. A collector plays
-//! the search, and a progress line goes to standard error. Each added share has to be that of one call over all reports, an answer in which a
-//! part is missing has to be named, and the whole search has to give the same record and list.
+//! the search, with a progress line where standard error is a terminal. Each added share has to be that of one call over all reports, an answer
+//! in which a part is missing has to be named, and the whole search has to give the same record and list.
 //!
 //!     cargo run --release --example parallel_server
 
 use std::error::Error;
+use std::fmt;
+use std::io::{self, IsTerminal};
 use std::sync::atomic::{AtomicUsize, Ordering};
 use std::sync::mpsc;
 use std::thread;
@@ -97,11 +99,20 @@ impl Holder {
         })
     }
 
-    /// Writes the progress line over the one before.
+    /// Shows the progress line over the one before.
     fn progress(&self, query: &[u8], done: usize, parts: usize) {
         let level = prefix_bits(query).unwrap_or_default();
         let server = self.server as u8;
-        eprint!("\rserver {server}, level {level} of {N}: {done} parts of {parts} done    ");
+        show(format_args!(
+            "\rserver {server}, level {level} of {N}: {done} parts of {parts} done    "
+        ));
+    }
+}
+
+/// Writes to standard error where that is a terminal.
+fn show(text: fmt::Arguments<'_>) {
+    if io::stderr().is_terminal() {
+        eprint!("{text}");
     }
 }
 
@@ -126,7 +137,7 @@ fn held_strings() -> Result<Vec<u16>, Refusal> {
 /// Plays the search; each added share is compared with that of one call.
 fn collect(zero: &Holder, one: &Holder) -> Result<Collector, Box<dyn Error>> {
     let (parts0, parts1) = (zero.parts(), one.parts());
-    let mut collector = Collector::new(N, T, zero.seeds.len() as u64)?;
+    let mut collector = Collector::new(N, T, zero.seeds.len())?;
     while let Some(query) = collector.query() {
         let share0 = zero.answer(&parts0, query)?;
         let share1 = one.answer(&parts1, query)?;
@@ -137,18 +148,18 @@ fn collect(zero: &Holder, one: &Holder) -> Result<Collector, Box<dyn Error>> {
         }
         collector.answers(&share0, &share1)?;
     }
-    eprintln!();
+    show(format_args!("\n"));
     Ok(collector)
 }
 
 /// What a collector says in the first round where server 1 forgets its last part.
 fn with_a_part_missing(zero: &Holder, one: &Holder) -> Result<(), CollectorError> {
-    let mut collector = Collector::new(N, T, zero.seeds.len() as u64)?;
+    let mut collector = Collector::new(N, T, zero.seeds.len())?;
     let query = collector.query().unwrap_or_default();
     let parts = one.parts();
     let share0 = zero.answer(&zero.parts(), query)?;
     let share1 = one.answer(&parts[..parts.len() - 1], query)?;
-    eprintln!();
+    show(format_args!("\n"));
     collector.answers(&share0, &share1)
 }
 

@@ -5,8 +5,8 @@
 
 use std::error::Error;
 use tally::{
-    add_shares, block, combine, make_key, prefix_bits, prefixes, public_share_length, search,
-    share, strings, totals, Answer, Expander, Found, Refusal, Reports, Seed, Server, FIRST_QUERY,
+    add_shares, block, make_key, public_share_length, search, share, strings, Collector,
+    CollectorError, Expander, Record, Refusal, Reports, Seed, Server,
 };
 
 /// The string length and the threshold.
@@ -81,27 +81,14 @@ fn held_strings() -> Result<Vec<u16>, Refusal> {
     Ok(held)
 }
 
-/// The collector: asks both servers level by level, until the list is found or nothing is kept.
-fn collect(zero: &Holder, one: &Holder) -> Result<Found, Refusal> {
-    let (mut query, mut record) = (FIRST_QUERY.to_vec(), Vec::new());
-    loop {
-        let (share0, share1) = (zero.answer(&query)?, one.answer(&query)?);
-        let sums = totals(&share0, &share1);
-        record.extend(&query);
-        record.extend(sums.iter().flat_map(|total| total.to_le_bytes()));
-        let level = prefix_bits(&query).unwrap_or_default();
-        let asked = prefixes(&query).count();
-        let kept = sums.iter().filter(|&&total| T <= total).count();
-        println!("level {level:2}: {asked} prefixes asked, {kept} kept");
-        match combine(N, T, &query, &share0, &share1)? {
-            Answer::Next(next) => query = next,
-            Answer::List(list) => return Ok(Found { record, list }),
-            Answer::Ended => {
-                let list = Vec::new();
-                return Ok(Found { record, list });
-            }
-        }
+/// The collector's side: both servers answer each query, until the list is found or nothing is kept.
+fn collect(zero: &Holder, one: &Holder) -> Result<Collector, CollectorError> {
+    let mut collector = Collector::new(N, T, zero.seeds.len())?;
+    while let Some(query) = collector.query() {
+        let (share0, share1) = (zero.answer(query)?, one.answer(query)?);
+        collector.answers(&share0, &share1)?;
     }
+    Ok(collector)
 }
 
 fn main() -> Result<(), Box<dyn Error>> {
@@ -114,7 +101,12 @@ fn main() -> Result<(), Box<dyn Error>> {
         one.take(seed1, &public_share);
     }
     println!("{} installations, threshold {T}", held.len());
-    let found = collect(&zero, &one)?;
+    let found = collect(&zero, &one)?.into_found().ok_or("it is not over")?;
+    for round in Record::new(&found.record).ok_or("no record")?.rounds() {
+        let (level, asked) = (round.query().length(), round.query().count());
+        let kept = round.totals().filter(|&total| T <= total).count();
+        println!("level {level:2}: {asked} prefixes asked, {kept} kept");
+    }
     for string in strings(N, &found.list) {
         println!("heavy {:02x}{:02x}", string[0], string[1]);
     }

@@ -71,7 +71,7 @@ pub enum CollectorError {
     Refused(Refusal),
     /// The first totals, those of `0` and `1`, do not add to the agreed number of reports.
     FirstTotals {
-        /// The number of reports.
+        /// What they should add to: the number of reports.
         expected: u64,
         /// The sum, as a whole number.
         found: u128,
@@ -104,19 +104,19 @@ impl Collector {
     /// * 1, [`Refusal::StringLength`];
     /// * 2, [`Refusal::Threshold`];
     /// * 5, [`Refusal::TooManyReports`].
-    pub fn new(n: u64, t: u64, reports: u64) -> Result<Collector, Refusal> {
+    pub fn new(n: u64, t: u64, reports: usize) -> Result<Collector, Refusal> {
         if !(1..=BITS_MOST).contains(&n) {
             return Err(Refusal::StringLength);
         }
         if !(1..=THRESHOLD_MOST).contains(&t) {
             return Err(Refusal::Threshold);
         }
-        if reports > REPORTS_MOST as u64 {
+        if reports > REPORTS_MOST {
             return Err(Refusal::TooManyReports);
         }
         let state = State::Asking {
             query: FIRST_QUERY.to_vec(),
-            parents: vec![(BitString::default(), reports)],
+            parents: vec![(BitString::default(), reports as u64)],
         };
         Ok(Collector {
             n,

@@ -63,7 +63,7 @@ pub fn exam_into(text: &[u8], out: &mut [u8]) -> Result<usize, Refusal> {
 }
 
 /// The whole output for an exam text, as the exam program prints it: the answer, as [`exam`](exam()) gives it, or where the text is refused with
-/// 10, 1, 2 or 3 the one line `refused` and that number.
+/// 10, 1, 2 or 3 the one line `refused` and that number. That line is no error here, while [`exam`](exam()) returns the number as its error.
 ///
 /// ```
 /// use tally::{respond, Refusal};
@@ -80,7 +80,8 @@ pub fn respond(text: &[u8]) -> Result<Vec<u8>, Refusal> {
     written(EXAM_SPACE, |out| respond_into(text, out))
 }
 
-/// Writes the whole output for an exam text into `out`, and returns how many bytes that is; [`EXAM_SPACE`] bytes are enough.
+/// Writes the whole output for an exam text into `out`, and returns how many bytes that is; [`EXAM_SPACE`] bytes are enough. Where it writes the
+/// line of a refusal it returns that line's length.
 ///
 /// ```
 /// use tally::{respond_into, Refusal};
@@ -88,12 +89,13 @@ pub fn respond(text: &[u8]) -> Result<Vec<u8>, Refusal> {
 /// let mut out = [0; 10];
 /// assert_eq!(respond_into(b"0 1 0\n", &mut out)?, 10);
 /// assert_eq!(&out, b"refused 1\n");
+/// assert_eq!(respond_into(b"0 1 0\n", &mut out[..9]), Err(Refusal::Space));
 /// # Ok::<(), Refusal>(())
 /// ```
 ///
 /// # Errors
 ///
-/// * 11, [`Refusal::Space`]: `out` is too small for the whole output.
+/// * 11, [`Refusal::Space`]: `out` is too small for the whole output, whatever the text.
 pub fn respond_into(text: &[u8], out: &mut [u8]) -> Result<usize, Refusal> {
     let reply = tally_sys::respond(text, out);
     accepted(reply.number, reply.length, out.len())

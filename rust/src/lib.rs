@@ -12,7 +12,7 @@
 //!
 //! What the calls compute, and when they refuse, is proved of the library. The crate `tally-sys` declares it and turns slices into pointers and
 //! lengths; this one turns numbers into enums and reads what was written; both are plain Rust. n and t are 64-bit numbers, as in the library, so
-//! that each wrong value is judged and none is cut.
+//! that each wrong value is judged and none is cut; how many reports or prefixes there are is a `usize`, as a slice's length is.
 //!
 //! [`PublicShare`], [`Query`], [`Record`] and [`List`] are checked views of bytes, and iterate over what stands in them; a string or a prefix is
 //! then a [`BitString`]. The calls themselves take and return plain bytes.
@@ -21,7 +21,7 @@
 //!
 //! `rt staticlib capi`, at the top of the repository, proves the library and writes it to `target/staticlib/libcapi.a`. The crate links that
 //! file, which has to be there before `cargo build`. Where it lies in another folder, the environment variable `CAPI_FOLDER` names the folder,
-//! by an absolute path or by one from the folder `rust`:
+//! by an absolute path or by one from the folder `rust`; empty, it counts as unset:
 //!
 //! ```text
 //! CAPI_FOLDER=/opt/vembuzsa cargo build --release
@@ -32,8 +32,10 @@
 //! # How bytes are laid out
 //!
 //! * A string or a prefix is packed in the fewest bytes, first bit highest, spare bits zero.
+//! * A public share is the control bits, left then right, level by level, packed in the fewest bytes, lowest bit first, spare bits zero; then for
+//!   each level 16 bytes of seed correction and 8 of payload correction, a number below p = 2^64 − 2^32 + 1, least significant byte first.
 //! * A query is the prefix length minus one in 2 bytes, the count in 4, both big-endian, and the prefixes, strictly ascending.
-//! * A share is a number below p = 2^64 − 2^32 + 1 for each prefix, 8 bytes each, least significant first.
+//! * A share is a number below p for each prefix, 8 bytes each, least significant first.
 //! * A record is each query followed by its totals, 8 bytes each; a list is packed strings of n bits, ascending.
 //!
 //! # Example

@@ -1,4 +1,5 @@
-//! Shows the linker where the proved library lies: `target/staticlib` at the top of the repository, or the folder that `CAPI_FOLDER` names.
+//! Shows the linker where the proved library lies: `target/staticlib` at the top of the repository, or the folder that `CAPI_FOLDER` names where it
+//! is not empty.
 
 use std::env;
 use std::path::PathBuf;
@@ -9,8 +10,8 @@ fn main() {
     println!("cargo:rerun-if-env-changed=CAPI_FOLDER");
     let home = PathBuf::from(env::var_os("CARGO_MANIFEST_DIR").unwrap_or_default()).join("..");
     let folder = match env::var_os("CAPI_FOLDER") {
-        Some(named) => home.join(named),
-        None => home.join("../target/staticlib"),
+        Some(named) if !named.is_empty() => home.join(named),
+        _ => home.join("../target/staticlib"),
     };
     let library = folder.join("libcapi.a");
     if !library.is_file() {

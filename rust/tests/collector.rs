@@ -58,7 +58,7 @@ impl Held {
     }
 
     fn collector(&self, t: u64) -> Collector {
-        Collector::new(self.n, t, self.count() as u64).unwrap()
+        Collector::new(self.n, t, self.count()).unwrap()
     }
 
     /// Takes honest answers for some rounds.
@@ -171,7 +171,7 @@ fn arguments_outside_their_bounds_are_refused() {
     for t in [0, 65_536, u64::MAX] {
         assert_eq!(Collector::new(1, t, 65_536), Err(Refusal::Threshold));
     }
-    for reports in [65_536, u64::MAX] {
+    for reports in [65_536, usize::MAX] {
         assert_eq!(Collector::new(1, 1, reports), Err(Refusal::TooManyReports));
     }
 }

@@ -1,4 +1,5 @@
-//! The C header and the Rust declarations say the same: the structs with their fields, and the functions with their parameters, in order.
+//! The C header and the Rust declarations say the same: the structs with their fields, and the functions with their parameters, in order; and the
+//! header and both crates have one version.
 
 const HEADER: &str = include_str!("../../include/tally.h");
 const DECLARED: &str = concat!(
@@ -91,6 +92,14 @@ fn rust_functions(text: &str) -> Vec<Declared> {
         (format!("tally_{name}"), parameters, returned.to_string())
     });
     functions.collect()
+}
+
+#[test]
+fn the_versions_agree() {
+    let version = env!("CARGO_PKG_VERSION");
+    assert!(HEADER.contains(&format!("\n#define TALLY_VERSION \"{version}\"\n")));
+    let below = include_str!("../sys/Cargo.toml");
+    assert!(below.contains(&format!("\nversion = \"{version}\"\n")));
 }
 
 #[test]

@@ -257,6 +257,14 @@ fn space_is_as_defined() {
 }
 
 #[test]
+fn the_largest_and_the_least_space() {
+    assert_eq!(record_space(256, 1, REPORTS_MOST), 803_460_126);
+    assert_eq!(list_space(256, 1, REPORTS_MOST), 2_097_120);
+    assert_eq!(record_space(1, THRESHOLD_MOST, 0), 24);
+    assert_eq!(list_space(256, THRESHOLD_MOST, REPORTS_MOST - 1), 0);
+}
+
+#[test]
 fn space_outside_the_bounds_is_0() {
     for (n, t, reports) in [
         (0, 1, 1),
@@ -274,6 +282,7 @@ fn space_outside_the_bounds_is_0() {
     assert_eq!(public_share_length(u64::MAX), 0);
     assert_eq!(query_length(u64::MAX, usize::MAX), 0);
     assert_eq!(share_length(&[0, 0, 0xff, 0xff, 0xff, 0xff, 0x00]), 0);
-    assert_eq!(answer_space(u64::MAX, &FIRST_QUERY), 10);
-    assert_eq!(answer_space(0, &FIRST_QUERY), 0);
+    for n in [0, 257, u64::MAX] {
+        assert_eq!(answer_space(n, &FIRST_QUERY), 0);
+    }
 }

@@ -156,7 +156,7 @@ pub fn record_space(n: u64, t: u64, reports: u64) -> u64 {
     unsafe { library::tally_record_space(n, t, reports) }
 }
 
-/// Space that is enough for the list of a search over this many honest reports; 0 where an argument is outside its bounds.
+/// Space that is enough for the list of a search over this many honest reports; 0 where an argument is outside its bounds or t is more than them.
 #[inline]
 pub fn list_space(n: u64, t: u64, reports: u64) -> u64 {
     // SAFETY: the call takes and returns numbers alone.
@@ -206,7 +206,7 @@ pub fn exam(text: &[u8], out: &mut [u8]) -> Reply {
     unsafe { library::tally_exam(text.as_ptr(), text.len(), out.as_mut_ptr(), out.len()) }
 }
 
-/// The whole output for an exam text, the answer or the line of the refusal, into `out`.
+/// The whole output for an exam text, the answer or the line of the refusal, into `out`; the number is then 0 for both.
 #[inline]
 pub fn respond(text: &[u8], out: &mut [u8]) -> Reply {
     // SAFETY: each pointer and length come from one live slice, and `out` is borrowed mutably.
