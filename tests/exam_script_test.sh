@@ -46,6 +46,7 @@ case $1 in
             unproved) echo 'logic=not-proved'; exit 1 ;;
             broken) echo 'no space left on device'; exit 1 ;;
             slow) sleep 300 & echo $! >"$kit/worker"; wait ;;
+            changing) echo '// meanwhile' >>crates/exam/src/main.rt ;;
         esac
         mkdir -p target/bin
         cp "$kit/program" "target/bin/$2"
@@ -147,6 +148,48 @@ echo unproved >"$here/kit/behaviour"
 expect 1 hello 'is not proved'
 expect 1 hello 'is not proved'
 
+# a source that changes during the build
+tree changing
+echo changing >"$here/kit/behaviour"
+expect 1 hello 'a source was changed while the program was built'
+echo good >"$here/kit/behaviour"
+expect 0 hello 'answer to hello'
+[ "$(builds)" -eq 2 ] || fault 'a program of changed sources was used'
+
+# the version: the commit that the program was built of, whatever the checkout and git say later
+tree version
+inside() { git -C "$here" -c user.name=test -c user.email=test@test.invalid "$@"; }
+commit() { inside commit -q --allow-empty -m "$1" && inside rev-parse HEAD; }
+inside init -q
+inside add crates crates.txt
+one=$(commit one)
+expect 0 '' "^no program is built of these sources by kit kit one; the checkout is at commit $one\$" --version
+expect 0 hello 'answer to hello'
+two=$(commit two)
+expect 0 '' "^kit kit one, commit $one\$" --version
+PATH=$plain expect 0 '' "^kit kit one, commit $one\$" --version
+printf '#!/bin/sh\nexit 128\n' >"$here/kit/git"
+chmod +x "$here/kit/git"
+expect 0 '' "^kit kit one, commit $one\$" --version
+name=key expect 0 '' '^no program is built of these sources by kit kit one; the checkout is at commit not known$' --version
+rm "$here/kit/git"
+if [ "$(id -u)" -eq 0 ]; then
+    chmod a+rx "$work"
+    said=$(HOME=$work setpriv --reuid=65534 --regid=65534 --clear-groups "$here/exam" --version)
+    [ "$said" = "kit kit one, commit $one" ] || fault "another user was told: $said"
+fi
+echo '// another' >>"$here/crates/exam/src/main.rt"
+expect 0 '' "^no program is built of these sources by kit kit one; the checkout is at commit $two and changes since\$" --version
+PATH=$plain expect 0 '' "^no program is built of these sources; the checkout is at commit $two and changes since\$" --version
+name=key expect 0 hello 'answer to hello'
+name=key expect 0 '' "^kit kit one, commit $two and changes since\$" --version
+inside add crates
+three=$(commit three)
+expect 0 hello 'answer to hello'
+expect 0 '' "^kit kit one, commit $three\$" --version
+echo 'kit two' >"$here/kit/version"
+expect 0 '' "^no program is built of these sources by kit kit two; the checkout is at commit $three\$" --version
+
 # a closed output
 tree closed
 expect 0 hello 'answer to hello'
@@ -176,14 +219,24 @@ for _ in $(seq 50); do [ -s "$work/many" ] && break; sleep 0.1; done
 # options and files
 tree options
 expect 0 '' 'usage: exam' --help
+expect 0 '' 'the program is proved and built' --help
 expect 2 '' 'there is no option --wrong' --wrong
+for option in --help --version; do
+    expect 2 '' "^exam: $option stands alone" $option extra
+    expect 2 '' "^exam: $option stands alone" $option ''
+    expect 2 '' "^exam: $option stands alone" "$work/a" $option
+    expect 2 '' "^exam: $option stands alone" --explain $option
+done
+[ "$(builds)" -eq 0 ] || fault 'a wrong use built the program'
 expect 0 '' 'kit ' --version
 echo first >"$work/a"
 echo bad >"$work/b"
 expect 0 '' 'answer to first' "$work/a"
 "$here/exam" "$work/a" "$work/b" >"$work/out"
 [ "$(cat "$work/out")" = "$(printf '%s\nanswer to first\n\n%s\nrefused 10' "$work/a" "$work/b")" ] || fault "several files: $(cat "$work/out")"
-expect 1 '' 'cannot be read' "$work/missing"
+expect 1 '' "^exam: the file '$work/missing' cannot be read" "$work/missing"
+expect 1 '' "^exam: the file '$work/missing' cannot be read" "$work/a" "$work/missing"
+[ ! -s "$work/out" ] || fault "answered though one of several files cannot be read: $(cat "$work/out")"
 expect 0 bad 'line 1, column 1: expected a decimal digit of n' --explain
 [ "$(cat "$work/out")" = 'refused 10' ] || fault 'with --explain another output'
 
@@ -200,7 +253,8 @@ wait "$first" || fault 'the use of exam beside one of key failed'
 # its failures, in its own name
 expect 1 fail '^key: the run failed with status 3'
 expect 1 mute '^key: standard input cannot be read'
-expect 1 '' '^key: the file .* cannot be read' "$work/missing"
+expect 1 '' "^key: the file '$work/missing' cannot be read" "$work/missing"
+expect 1 '' "^key: the file '' cannot be read" ''
 got=0
 echo hello | "$here/key" >&- 2>"$work/err" || got=$?
 [ "$got" -eq 1 ] && grep -q '^key: standard output is closed' "$work/err" || fault "status $got with standard output closed: $(cat "$work/err")"
@@ -209,6 +263,7 @@ echo hello | "$here/key" >&- 2>"$work/err" || got=$?
 expect 0 '' 'usage: key \[FILE' --help
 expect 0 '' '^kit kit one, commit ' --version
 expect 2 hello '^key: there is no option --explain' --explain
+expect 2 '' '^key: --version stands alone' "$work/a" --version
 "$here/key" "$work/a" "$work/b" >"$work/out"
 [ "$(cat "$work/out")" = "$(printf '%s\nanswer to first\n\n%s\nrefused 10' "$work/a" "$work/b")" ] || fault "several files: $(cat "$work/out")"
 ln -s "$here/key" "$work/exam"

@@ -12,6 +12,13 @@ import explain
 
 PROGRAM = "target/bin/exam"
 DAMAGED = 1500
+SAID = {
+    b"33 1 0\n": "line 1, column 1: expected n of at most 32, found 33",
+    b"99999 1 0\n": "line 1, column 1: expected n of at most 32, found 99999",
+    b"1 1 33 2\n": "line 1, column 5: expected C of at most 32, found 33",
+    b"01 1 0\n": "line 1, column 1: expected n without a leading zero, found byte 48 ('0')",
+    b"1 100000 0\n": "line 1, column 8: expected t of at most 5 digits, found byte 48 ('0')",
+}
 
 
 def refused(text):
@@ -38,6 +45,11 @@ def main():
     if not os.access(PROGRAM, os.X_OK):
         sys.exit("explain_test: %s is not built" % PROGRAM)
     texts = [open(path, "rb").read() for path in sorted(glob.glob("docs/sheets/*.txt") + glob.glob("crates/exam_sheets/data/*"))]
+    for text, wanted in SAID.items():
+        said = explain.explanation(text)
+        if said != wanted:
+            sys.exit("explain_test: of %r was said: %s" % (text, said))
+    texts += list(SAID)
     rng = random.Random(1)
     small = [text for text in texts if len(text) < 600]
     texts += [damage(rng, rng.choice(small)) for _ in range(DAMAGED)]

@@ -1,6 +1,7 @@
 #!/usr/bin/env python3
 """Each line of a program that docs/SERVERS.md quotes stands in a program that the gate runs; each output that the README and docs/EXAM.md quote is that of
-a sheet, a key or a C example, and refusals are what the programs print; the README leads to every page of docs, and no link of these is broken."""
+a sheet, a key or a C example, and refusals are what the programs print; the pages say what examiners and candidates asked for; the README leads to every page of
+docs, and no link of these is broken."""
 import glob
 import os
 import re
@@ -8,6 +9,39 @@ import subprocess
 import sys
 
 PROGRAMS = {"c": ["examples/c/two_servers.c", "examples/c/split_server.c"], "rust": ["rust/examples/two_servers.rs"]}
+
+# what a page has to say, once, in whatever lines
+SAID = {
+    "docs/EXAM.md": [
+        "the scope paper that candidates are given with the sitting; it is not part of these sources",
+        "several answers stand each under the name of its file, with an empty line between two; where one of the files cannot be read, none is answered",
+        "the commit that it was built of",
+        "which writes it into `target/package`, or `tools/package FOLDER`; a checksum file stands beside it",
+        "`tools/mark TEXTS HANDED-IN`",
+        "a text whose first line has five fields, separated by single spaces, is a key's",
+        "byte for byte: CR LF at the end of a line, a space at its end and a missing last newline count as wrong, and a file whose name is in another case as missing",
+        "2 for a wrong use, or where a folder is missing or holds nothing to mark",
+        "`--help` and `--version` stand alone",
+    ],
+    "README.md": ["`tools/mark` compares what candidates handed in, sheets and keys, with what the two programs print"],
+}
+# the rules for work by hand, which docs/EXAM.md has before A
+RULES = [
+    "level K takes the next two bits upward, left then right, four levels a byte",
+    "Both sums are modulo 2^64",
+    "reduced modulo p",
+    "No sum in A and H needs it",
+    "The root's control bits are always 0 for server 0 and 1 for server 1",
+    "At every level the server whose control bit at the parent is 1 corrects its kept child",
+    "negated where the new t1 is 1",
+]
+
+
+def says(page, text, sentences):
+    text = " ".join(text.split())
+    for sentence in sentences:
+        if text.count(sentence) != 1:
+            sys.exit("pages_test: %s does not say once: %s" % (page, sentence))
 
 
 def links(page):
@@ -48,6 +82,9 @@ def main():
             sys.exit("pages_test: %s is not built" % program)
         if refusals(program, text) < least:
             sys.exit("pages_test: docs/EXAM.md names too few texts that %s refuses" % program)
+    for page, sentences in SAID.items():
+        says(page, open(page, encoding="utf-8").read(), sentences)
+    says("docs/EXAM.md before A", key.split("\n## A\n")[0], RULES)
     page = open("docs/SERVERS.md", encoding="utf-8").read()
     blocks = re.findall(r"^```(.*)\n((?:.*\n)*?)```$", page, re.M)
     if len(blocks) < 5:

@@ -22,11 +22,11 @@ class Reader:
     def __init__(self, text):
         self.text, self.at = text, 0
 
-    def fault(self, expected, at=None):
+    def fault(self, expected, at=None, found=None):
         at = self.at if at is None else at
         line = self.text.count(b"\n", 0, at) + 1
         column = at - (self.text.rfind(b"\n", 0, at) + 1) + 1
-        raise Fault("line %d, column %d: expected %s, found %s" % (line, column, expected, shown(self.text, at)))
+        raise Fault("line %d, column %d: expected %s, found %s" % (line, column, expected, found or shown(self.text, at)))
 
     def peek(self):
         return self.text[self.at:self.at + 1]
@@ -54,7 +54,7 @@ class Reader:
         if len(word) > 5:
             self.fault("%s of at most 5 digits" % name, start + 5)
         if int(word) > MOST.get(name, 99999):
-            self.fault("%s of at most %d" % (name, MOST[name]), start)
+            self.fault("%s of at most %d" % (name, MOST[name]), start, "%d" % int(word))
         return int(word)
 
 

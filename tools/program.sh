@@ -12,7 +12,9 @@ $purpose Several answers stand each under the name of its file. The status is 0 
 
 ${explainer:+  --explain  where a text is refused with 10, says on standard error at which line and column it is not as laid out. The explanation comes from
              $explainer, which is not proved and decides nothing.
-}  --version  the kit that proved the program, and the commit of the sources
+}  --version  the kit that proved the program, and the commit that it was built of
+END
+    [ "$packaged" = yes ] || cat <<END
 
 On first use, and when a source or the kit has changed, the program is proved and built, which takes some minutes and needs the Rattle kit.
 END
@@ -23,6 +25,12 @@ fail() {
     exit 1
 }
 
+wrong_use() {
+    echo "$name: $1" >&2
+    usage >&2
+    exit 2
+}
+
 target=$home/target
 program=$target/bin/$name
 built=$target/$name.built
@@ -30,7 +38,7 @@ packaged=no
 if [ -f "$home/PACKAGE" ]; then
     packaged=yes
     program=$home/bin/$name
-    built=$home/PACKAGE
+    built=$home/bin/$name.built
 fi
 
 # what the program is made of: every source, definition and proof
@@ -42,6 +50,14 @@ kit() {
     command -v rt >/dev/null && rt version 2>/dev/null | head -n 1
 }
 
+# the commit of the checkout, and whether its sources differ from it
+commit() {
+    local of changes
+    [ -e "$home/.git" ] && of=$(git -C "$home" rev-parse HEAD 2>/dev/null) &&
+        changes=$(git --no-optional-locks -C "$home" status --porcelain -- crates crates.txt 2>/dev/null) || { echo 'not known'; return; }
+    echo "$of${changes:+ and changes since}"
+}
+
 # whether the program was built of these sources, and by this kit where there is one
 current() {
     [ -x "$program" ] && [ -r "$built" ] || return 1
@@ -51,9 +67,26 @@ current() {
     ! command -v rt >/dev/null || [ "$by" = "$(kit)" ]
 }
 
+# the kit and the commit of a program that is current; else that none is, and the commit of the checkout
+version() {
+    local of by
+    if current; then
+        by=$(sed -n 2p "$built") of=$(sed -n 3p "$built")
+        echo "kit ${by:-not known}, commit ${of:-not known}"
+        return
+    fi
+    [ "$packaged" = no ] || not_whole
+    by=$(kit)
+    echo "no program is built of these sources${by:+ by kit $by}; the checkout is at commit $(commit)"
+}
+
+not_whole() {
+    fail "this package is not whole: $program or $built is missing"
+}
+
 # proves and builds it, once for all who ask at the same time, and never beside the other program's build
 build() {
-    [ "$packaged" = no ] || fail "this package is not whole: $program is missing"
+    [ "$packaged" = no ] || not_whole
     command -v rt >/dev/null || fail 'the Rattle kit is needed to build the program (no rt on the path)'
     mkdir -p "$target" 2>/dev/null && [ -w "$target" ] || fail "there is no right to write $target"
     exec 9>"$target/build.lock" || fail "there is no right to write $target"
@@ -66,6 +99,8 @@ build() {
         return
     fi
     rm -f "$built" || fail "there is no right to write $target"
+    local of by from
+    of=$(sources) by=$(kit) from=$(commit 9>&-)
     echo "$name: proving and building the program, which may take some minutes" >&2
     local log=$target/$name.log worker status
     setsid bash -c 'cd "$1" && exec rt check "$2"' _ "$home" "$name" >"$log" 2>&1 </dev/null 9>&- &
@@ -85,7 +120,8 @@ build() {
         fi
     fi
     [ -x "$program" ] || fail 'the check passed, but built no program; remove the folder target and try again'
-    printf '%s\n%s\n' "$(sources)" "$(kit)" >"$built" || fail "there is no right to write $target"
+    [ "$of" = "$(sources)" ] || fail 'a source was changed while the program was built; try again'
+    printf '%s\n%s\n%s\n' "$of" "$by" "$from" >"$built" || fail "there is no right to write $target"
     exec 9>&-
 }
 
@@ -114,21 +150,18 @@ answer() {
 trap 'fail "standard output was closed before the answer was written"' PIPE
 explain=no
 files=()
+given=$#
 while [ $# -gt 0 ]; do
     case $1 in
-        --help)
-            usage 2>/dev/null || fail 'standard output cannot be written'
-            exit 0
-            ;;
-        --version)
-            if [ -r "$built" ]; then by=$(sed -n 2p "$built"); else by=$(kit); fi
-            if [ "$packaged" = yes ]; then of=$(sed -n 3p "$built"); else of=$(git -C "$home" rev-parse HEAD 2>/dev/null); fi
-            echo "kit ${by:-not known}, commit ${of:-not known}" 2>/dev/null || fail 'standard output cannot be written'
+        --help | --version)
+            [ "$given" -eq 1 ] || wrong_use "$1 stands alone"
+            if [ "$1" = --help ]; then said=$(usage); else said=$(version); fi || exit 1
+            printf '%s\n' "$said" 2>/dev/null || fail 'standard output cannot be written'
             exit 0
             ;;
         --) shift; files+=("$@"); break ;;
         -?*)
-            [ "$1" = --explain ] && [ -n "$explainer" ] || { echo "$name: there is no option $1" >&2; usage >&2; exit 2; }
+            [ "$1" = --explain ] && [ -n "$explainer" ] || wrong_use "there is no option $1"
             explain=yes
             ;;
         *) files+=("$1") ;;
@@ -141,7 +174,7 @@ if [ ${#files[@]} -eq 0 ]; then
 fi
 [ "$explain" = no ] || command -v python3 >/dev/null || fail '--explain needs python3'
 for file in "${files[@]}"; do
-    [ ! -d "$file" ] && [ -r "$file" ] || fail "the file $file cannot be read"
+    [ ! -d "$file" ] && [ -r "$file" ] || fail "the file '$file' cannot be read"
 done
 current || build
 
