@@ -1,0 +1,3 @@
+pub mod Embedding
+pub mod Words
+pub mod Examples
