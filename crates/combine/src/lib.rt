@@ -36,7 +36,7 @@ pub fn combine(
     }
     let len = query::prefix_length(query);
     let longer = len + 1;
-    let rule = Rule { t };
+    let rule = Rule { t, weighted: false };
     let kept = count_kept(rule, share0, share1);
     if len as u64 == n {
         let list_size = kept * packed_length(len);

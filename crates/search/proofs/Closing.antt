@@ -103,12 +103,12 @@ module _ (s : Lent) where
 
       pub settled : (last number recordLength′ listLength′ : ℕ) (recordArea′ listArea′ : List ℕ) → last + 1 ≡ s .n
           → endingWith number recordLength′ listLength′ recordArea′ listArea′
-          ≡ ending (record { t = s .t }) e (last + 1) (s .seeds0) (s .shares0) (s .seeds1) (s .shares1) (s .recordArea) (s .listArea)
+          ≡ ending (record { t = s .t; weighted = false }) e (last + 1) (s .seeds0) (s .shares0) (s .seeds1) (s .shares1) (s .recordArea) (s .listArea)
           → Settled number recordLength′ listLength′ recordArea′ listArea′
       unfolding ending
       settled last number recordLength′ listLength′ recordArea′ listArea′ m h = told (rw m at h)
         where
           told : endingWith number recordLength′ listLength′ recordArea′ listArea′
-              ≡ ending (record { t = s .t }) e (s .n) (s .seeds0) (s .shares0) (s .seeds1) (s .shares1) (s .recordArea) (s .listArea)
+              ≡ ending (record { t = s .t; weighted = false }) e (s .n) (s .seeds0) (s .shares0) (s .seeds1) (s .shares1) (s .recordArea) (s .listArea)
               → Settled number recordLength′ listLength′ recordArea′ listArea′
           told g = g ∙ sym same-ending ∙ sym call-ending

@@ -53,7 +53,7 @@ pub fn search(
             let found = levels::run(
                 e,
                 (n - 1) as u8,
-                Rule { t },
+                Rule { t, weighted: false },
                 seeds0,
                 public_shares0,
                 seeds1,
