@@ -14,7 +14,7 @@ use Rattle.kept.specs.declared.Rule.{Rule}
 abbrev pub reaches : ℕ → ℕ → Bool
 reaches t total = leb t total
 
--- in a weighted search it is kept when its total, read as a signed number, is: document 02, [1]
+-- document 02, [1]: in a weighted search it is kept when its total, read as a signed number, is at least t
 abbrev pub reachesSigned : ℕ → ℕ → Bool
 reachesSigned t total = leZ (pos t) (signedIn modulus total)
 

@@ -96,8 +96,8 @@ module _ (w : ℤ) (fits : SFits w16 w) (less : ltZ (widened w) (pos 0) ≡ true
   pub negated-word : T (nonNeg (toZ w64 (ofZ w64 negated))) × Fits w64 (natAbs (toZ w64 (ofZ w64 negated)))
   negated-word = subst (λ (z : ℤ). T (nonNeg z) × Fits w64 (natAbs z)) (sym read-is) (tt, record { fits = omega (arith, k .2) })
 
-  pub negated-less : natAbs (toZ w64 (ofZ w64 negated)) ≤ 18446744069414584321
-  negated-less = subst (λ (z : ℤ). natAbs z ≤ 18446744069414584321) (sym read-is) (omega (arith, k .2))
+  pub negated-most : natAbs (toZ w64 (ofZ w64 negated)) ≤ 32768
+  negated-most = subst (λ (z : ℤ). natAbs z ≤ 32768) (sym read-is) (omega (arith, k .2))
 
   pub negated-embedded : (18446744069414584321 - natAbs (toZ w64 (ofZ w64 negated)) ≡ embed modulus w)
       × (18446744069414584321 - natAbs (toZ w64 (ofZ w64 negated)) < modulus)

@@ -1,5 +1,6 @@
 -- `signed::from_signed` meets its contract.
-use Rattle.signed.proofs.Words.{wide-fits, negated-fits, negated-word, negated-less, negated-embedded, wide-word, wide-embedded}
+use native.Mathlib.Omega.{arith}
+use Rattle.signed.proofs.Words.{wide-fits, negated-fits, negated-word, negated-most, negated-embedded, wide-word, wide-embedded}
 use Rattle.signed.proofs.from_signed.Statement.{statement}
 use Rattle.signed.proofs.from_signed.Tie as tie
 
@@ -13,7 +14,7 @@ cast-result : tie.Need-cast-result
 cast-result c = negated-word (c .before .args .w) (c .before .fits .w) (c .if1 .taken)
 
 sub-result-2 : tie.Need-sub-result-2
-sub-result-2 c = negated-less (c .before .args .w) (c .before .fits .w) (c .if1 .taken)
+sub-result-2 c = omega (arith, negated-most (c .before .args .w) (c .before .fits .w) (c .if1 .taken))
 
 returns : tie.Need-returns
 returns c = negated-embedded (c .before .args .w) (c .before .fits .w) (c .if1 .taken)
