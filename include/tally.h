@@ -1,8 +1,8 @@
 // Vembuzsa's functions for C and C++: the calls of the proved library libcapi.a.
 //
-// An installation makes the public share of its string with tally_key and gives each server one of its two seeds and the public
-// share. For a query each server makes its share with tally_share; where many machines share a server's work, each makes that of its own
-// reports, and tally_add adds them. A collector turns two shares into the next query or the list with
+// An installation makes the public share of its string with tally_key and gives each server one of its two seeds and the public share. Its
+// report has a weight, which is 1 where reports are counted. For a query each server makes its share with tally_share; where many machines share
+// a server's work, each makes that of its own reports, and tally_add adds them. A collector turns two shares into the next query or the list with
 // tally_combine. tally_search does the whole search where one program holds both servers' reports. tally_exam does all of it for an exam text,
 // and tally_respond writes that text's whole output, refusals too.
 //
@@ -15,8 +15,9 @@
 //   length 0 overlaps none.
 // - It keeps nothing: no allocation, no state between calls, so calls from several threads are independent.
 // - It returns number 0 on success, with how many bytes were written from the beginning of an area; bytes past them are unchanged.
-// - Where it refuses, it returns the lowest number of the table below that applies, but 10 before any other, with lengths 0, and every lent
-//   byte is then unchanged; with one exception: when tally_search refuses with 11, every byte of the record area becomes zero.
+// - Where it refuses, it returns the first number that applies, in the order 10, 1, 2 or 12, 3, 4, 5, 6, 7, 8, 9, 11, with lengths 0, and every
+//   lent byte is then unchanged; with one exception: when tally_search refuses with 11, every byte of the record area becomes zero. No call
+//   judges both 2 and 12: 12 stands in the place of 2 where the call is weighted.
 // - tally_respond refuses with 11 alone: where 10, 1, 2 or 3 applies, it writes the line that names the number, and returns 0 and that line's
 //   length.
 // - It takes stack for each bit of n: a search with n = 256 was measured at 194 KiB on x86-64, so a thread should have 256 KiB or more;
@@ -28,7 +29,7 @@
 //  number | cause of refusal
 //  -------+---------------------------------------------------------------------------------------------------------------
 //       1 | The string length n is not from 1 to 256.
-//       2 | The threshold t is not from 1 to 65,535.
+//       2 | The threshold t is not from 1 to 65,535, and the call is not weighted.
 //       3 | The expander is not 1 or 2.
 //       4 | A lent input has the wrong length, seeds and public shares disagree in count, or the two servers' counts differ.
 //       5 | There are more than 65,535 reports.
@@ -38,6 +39,18 @@
 //       9 | The query is not as laid out below, or is outside its limits, or its prefixes are longer than n.
 //      10 | The exam text is not as laid out below; only tally_exam returns it, and tally_respond writes it as text.
 //      11 | What is to be written would not fit the lent space, or a next query would pass 131,070 prefixes.
+//      12 | The threshold t is not from 1 to 2,147,483,647, and the call is weighted.
+//
+// How totals are read:
+// - With honest reports the total of a prefix is the sum of the weights of those whose strings begin with it, its holders, modulo p; where every
+//   weight is 1 it is how many these are.
+// - In a search that is not weighted a total is a number from 0 to p - 1, and a prefix is kept when it is at least t. A report is honest there
+//   only if its weight is 1.
+// - In a weighted search a total up to (p - 1) / 2 reads as itself and a larger one as itself minus p, as tally_signed_total reads it, and a
+//   prefix is kept when that is at least t. The weights of 65,535 reports add to no less than -2,147,450,880 and no more than 2,147,385,345, so
+//   that every sum reads back exactly. Records and shares hold group numbers as they are: p - 5 for -5.
+// - A weighted search goes below a prefix only where it is kept. So a string whose weights add to t or more is not in the list if one of its
+//   prefixes of 1 to n bits has a sum below t, which negative weights of other strings make possible.
 //
 // How bytes are laid out:
 // - A string of n bits, or a prefix, is packed in the fewest bytes, first bit highest, spare bits zero.
@@ -49,7 +62,8 @@
 //   ascending.
 // - A share is one group number for each prefix of its query, in order.
 // - A record is each query followed by its totals, one group number for each prefix.
-// - A list is the heavy strings, those that at least t reports hold, packed, ascending.
+// - A list is the heavy strings, packed, ascending: those that at least t reports hold, or in a weighted search those of n bits all of whose
+//   prefixes of 1 to n bits have holders' weights that add to t or more.
 // - An exam text is a line `n t C e`, then C lines `string seed0 seed1`, and nothing after them: single spaces, and one newline at the end of
 //   each line. n, t, C and e are decimal, at most 5 digits without leading zeros (zero is `0`); n and C are at most 32; e is the expander, and
 //   where it is missing, with the space before it, it is 2. A string is n digits 0 or 1, a seed 32 hexadecimal digits in lower case. The text
@@ -70,7 +84,7 @@ extern "C" {
 #endif
 
 // The version of this header and of the library beside it.
-#define TALLY_VERSION "0.2.0"
+#define TALLY_VERSION "0.3.0"
 
 // ---- numbers
 
@@ -87,6 +101,7 @@ extern "C" {
 #define TALLY_REFUSED_QUERY 9
 #define TALLY_REFUSED_EXAM_TEXT 10
 #define TALLY_REFUSED_SPACE 11
+#define TALLY_REFUSED_WEIGHTED_THRESHOLD 12
 
 // A sentence for each number that a call returns. It is plain C in this header and no part of the proved library.
 static inline const char *tally_refusal_text(uint64_t number)
@@ -116,6 +131,8 @@ static inline const char *tally_refusal_text(uint64_t number)
         return "The exam text is not as laid out.";
     case TALLY_REFUSED_SPACE:
         return "What is to be written would not fit the lent space, or a next query would pass 131,070 prefixes.";
+    case TALLY_REFUSED_WEIGHTED_THRESHOLD:
+        return "The weighted threshold is not from 1 to 2,147,483,647.";
     default:
         return "unknown number";
     }
@@ -131,9 +148,16 @@ static inline const char *tally_refusal_text(uint64_t number)
 #define TALLY_KIND_LIST 2
 #define TALLY_KIND_ENDED 3
 
-// The bounds; the least string length, threshold and number of prefixes is 1, the least number of reports 0.
+// Whether a search is weighted, for the argument of that name.
+#define TALLY_UNWEIGHTED false
+#define TALLY_WEIGHTED true
+
+// The bounds; the least string length, threshold and number of prefixes is 1, the least number of reports 0. Every int16_t is a weight.
 #define TALLY_BITS_MOST 256
 #define TALLY_THRESHOLD_MOST 65535
+#define TALLY_WEIGHTED_THRESHOLD_MOST 2147483647
+#define TALLY_WEIGHT_LEAST (-32768)
+#define TALLY_WEIGHT_MOST 32767
 #define TALLY_REPORTS_MOST 65535
 #define TALLY_PREFIXES_MOST 131070
 
@@ -144,6 +168,17 @@ static inline const char *tally_refusal_text(uint64_t number)
 
 // The order p of the group.
 #define TALLY_GROUP_ORDER UINT64_C(18446744069414584321)
+
+// A total as a weighted search reads it: up to (p - 1) / 2 as itself, a larger one as itself minus p, also p and above, which are no totals.
+// It is plain C in this header and no part of the proved library.
+static inline int64_t tally_signed_total(uint64_t total)
+{
+    if (total <= (TALLY_GROUP_ORDER - 1) / 2)
+        return (int64_t)total;
+    if (total < TALLY_GROUP_ORDER)
+        return -1 - (int64_t)(TALLY_GROUP_ORDER - 1 - total);
+    return (int64_t)(total - TALLY_GROUP_ORDER);
+}
 
 // What to lend, with length 0, where there is nothing to read or to write: a pointer to a static byte that no call touches, since no pointer
 // may be null.
@@ -211,11 +246,12 @@ tally_reply tally_block(uint64_t expander,
                         uint64_t j,
                         uint8_t *block, size_t block_length);
 
-// Writes the public share of a string of n bits under two root seeds, which must come from a generator fit for keys.
+// Writes the public share of a string of n bits with a weight under two root seeds, which must come from a generator fit for keys. For a
+// search that is not weighted the weight is 1; a wider number that is given for it is cut to 16 bits by C before the call.
 // Reads: the packed string, TALLY_PACKED_LENGTH(n) bytes; the seed of server 0 and that of server 1, 16 bytes each.
 // Writes: TALLY_PUBLIC_SHARE_LENGTH(n) bytes of public_share, that is ceil(n / 4) + 24 * n.
 // Refuses with 1; 3; 4, the string or a seed has another length; 7, spare bits of the string are set; 11.
-tally_reply tally_key(uint64_t n, uint64_t expander,
+tally_reply tally_key(uint64_t n, uint64_t expander, int16_t weight,
                       const uint8_t *string, size_t string_length,
                       const uint8_t *seed0, size_t seed0_length,
                       const uint8_t *seed1, size_t seed1_length,
@@ -242,45 +278,48 @@ tally_reply tally_add(const uint8_t *share0, size_t share0_length,
                       const uint8_t *share1, size_t share1_length,
                       uint8_t *out, size_t out_length);
 
-// Turns two servers' shares for a query into an answer. A prefix is kept when its total, the sum of its two numbers modulo p, is at least t.
+// Turns two servers' shares for a query into an answer. A prefix is kept when its total, the sum of its two numbers modulo p, is at least t;
+// where weighted is true the total is first read as tally_signed_total reads it.
 // Kinds: TALLY_KIND_NEXT, the next query with both children of each kept prefix; TALLY_KIND_LIST, at length n the list of kept strings,
 // empty or not; TALLY_KIND_ENDED, before length n where nothing is kept; TALLY_KIND_REFUSED.
 // Reads: the query; the share of server 0 and that of server 1, 8 bytes for each prefix.
 // Writes, into out, where the query has prefixes of k bits and `kept` of them are kept: TALLY_QUERY_LENGTH(k + 1, 2 * kept) bytes for the next
 // query, kept * TALLY_PACKED_LENGTH(n) for the list, none where the search ended.
-// Refuses with 1; 2; 4, the shares' lengths differ, are no multiple of 8, or are not 8 for each prefix of a query that passes 9; 6; 9; 11,
-// also where more than 65,535 prefixes are kept before length n.
-tally_combine_reply tally_combine(uint64_t n, uint64_t t,
+// Refuses with 1; 2, or where weighted 12; 4, the shares' lengths differ, are no multiple of 8, or are not 8 for each prefix of a query that
+// passes 9; 6; 9; 11, also where more than 65,535 prefixes are kept before length n.
+tally_combine_reply tally_combine(uint64_t n, bool weighted, uint64_t t,
                                   const uint8_t *query, size_t query_length,
                                   const uint8_t *share0, size_t share0_length,
                                   const uint8_t *share1, size_t share1_length,
                                   uint8_t *out, size_t out_length);
 
 // Space that is enough for the record of a search over this many honest reports: for each prefix length k from 1 to n, a heading of 6 bytes
-// and TALLY_PACKED_LENGTH(k) + 8 bytes for each prefix, of which there are 2 at length 1 and then at most min(2^k, 2 * floor(reports / t)),
-// and no heading where there are none. It is 0 where n, t or the number of reports is outside its bounds, which the search refuses; within them
-// it is never below 24, so that 0 means outside.
+// and TALLY_PACKED_LENGTH(k) + 8 bytes for each prefix, of which there are 2 at length 1 and then at most min(2^k, 2 * w), and no heading where
+// there are none. Here w is the most prefixes of one length that can be kept: floor(reports / t), and where weighted is true
+// floor(reports / ceil(t / 32767)), since a weight is at most 32,767 and a kept prefix so has at least ceil(t / 32767) holders. It is 0 where n,
+// t or the number of reports is outside its bounds, which the search refuses; within them it is never below 24, so that 0 means outside. The
+// bounds of t are those of 2, or where weighted those of 12.
 // It is a proved function of the library, as is tally_list_space: neither is lent anything, and neither refuses. No arguments overflow: with
-// n = 256, t = 1 and 65,535 reports come the largest results, 803,460,126 for the record and 2,097,120 for the list, which fit a size_t of 32
-// bits. Both are calls and no constant expressions, so the two areas are allocated.
-uint64_t tally_record_space(uint64_t n, uint64_t t, uint64_t reports);
+// n = 256, 65,535 reports and t = 1, or where weighted any t up to 32,767, come the largest results, 803,460,126 for the record and 2,097,120
+// for the list, which fit a size_t of 32 bits. Both are calls and no constant expressions, so the two areas are allocated.
+uint64_t tally_record_space(uint64_t n, bool weighted, uint64_t t, uint64_t reports);
 
-// Space that is enough for the list of such a search: floor(reports / t) packed strings, not cut to the 2^n strings that there are. It is 0 where
-// an argument is outside its bounds, and also where t is more than the reports, which is no error: the list is then empty, and TALLY_EMPTY can
-// be lent for it, since malloc(0) may be null.
-uint64_t tally_list_space(uint64_t n, uint64_t t, uint64_t reports);
+// Space that is enough for the list of such a search: w packed strings, not cut to the 2^n strings that there are. It is 0 where an argument is
+// outside its bounds, and also where w is 0, since the reports are too few for any prefix to be kept, which is no error: the list is then empty,
+// and TALLY_EMPTY can be lent for it, since malloc(0) may be null.
+uint64_t tally_list_space(uint64_t n, bool weighted, uint64_t t, uint64_t reports);
 
-// Does the whole search: asks the first query, and then what combining answers, until the list is found or nothing is kept; the list is then
-// empty.
+// Does the whole search: asks the first query, and then what combining answers, weighted or not, until the list is found or nothing is kept; the
+// list is then empty.
 // Reads: each server's seeds, 16 bytes a report, and its public shares, TALLY_PUBLIC_SHARE_LENGTH(n) bytes a report.
-// Writes: the record, each query followed by its totals, into record; the list into list. tally_record_space(n, t, reports) and
-// tally_list_space(n, t, reports) are enough for honest reports; ill-formed ones may need more.
-// Refuses with 1; 2; 3; 4, seeds or public shares of a server are not whole or disagree in count, or the servers' counts differ; 5; 6; 7;
-// 8; 11, and then makes every byte of the record area zero, while the list area is unchanged. With at least these two spaces 11 means that
-// the reports are not all honest, that is, not all what tally_key was given and wrote for one string of n bits with this expander, each server
-// lent its own seed: a search of honest reports is then accepted. Where more space lets the others pass, nothing is claimed of their list; and
-// 0 does not say that all are honest.
-tally_found tally_search(uint64_t n, uint64_t t, uint64_t expander,
+// Writes: the record, each query followed by its totals, into record; the list into list. tally_record_space(n, weighted, t, reports) and
+// tally_list_space(n, weighted, t, reports) are enough for honest reports; ill-formed ones may need more.
+// Refuses with 1; 2, or where weighted 12; 3; 4, seeds or public shares of a server are not whole or disagree in count, or the servers' counts
+// differ; 5; 6; 7; 8; 11, and then makes every byte of the record area zero, while the list area is unchanged. With at least these two spaces 11
+// means that the reports are not all honest, that is, not all what tally_key was given and wrote for one string of n bits with this expander, and
+// where the search is not weighted with weight 1, each server lent its own seed: a search of honest reports is then accepted. Where more space
+// lets the others pass, nothing is claimed of their list; and 0 does not say that all are honest.
+tally_found tally_search(uint64_t n, bool weighted, uint64_t t, uint64_t expander,
                          const uint8_t *seeds0, size_t seeds0_length,
                          const uint8_t *public_shares0, size_t public_shares0_length,
                          const uint8_t *seeds1, size_t seeds1_length,
@@ -288,7 +327,8 @@ tally_found tally_search(uint64_t n, uint64_t t, uint64_t expander,
                          uint8_t *record, size_t record_length,
                          uint8_t *list, size_t list_length);
 
-// Answers an exam text: makes the keys of its strings, does the whole search over them, and writes the record and the list as lines.
+// Answers an exam text: makes the keys of its strings with weight 1, does the whole search over them, which is not weighted, and writes the
+// record and the list as lines.
 // Reads: the text, which need not end in a zero byte.
 // Writes: the answer into out, without a zero byte at its end. TALLY_EXAM_SPACE bytes are always enough; every answer has at least 8.
 // Refuses with 10, judged first; 1, n is 0; 2; 3; 11, out is too small for the whole answer.

@@ -1,5 +1,5 @@
 #!/usr/bin/env python3
-"""Each line of a program that docs/SERVERS.md quotes stands in a program that the gate runs; each output that the README and docs/EXAM.md quote is that of
+"""Each line of a program that docs/SERVERS.md and docs/WEIGHTS.md quote stands in a program that the gate runs; each output that these, the README and docs/EXAM.md quote is that of
 a sheet, a key or a C example, and refusals are what the programs print; the pages say what examiners and candidates asked for; the README leads to every page of
 docs, and no link of these is broken."""
 import glob
@@ -8,7 +8,11 @@ import re
 import subprocess
 import sys
 
-PROGRAMS = {"c": ["examples/c/two_servers.c", "examples/c/split_server.c"], "rust": ["rust/examples/two_servers.rs"]}
+# the programs whose lines a page quotes, and how many blocks it has at least
+PROGRAMS = {
+    "docs/SERVERS.md": ({"c": ["examples/c/two_servers.c", "examples/c/split_server.c"], "rust": ["rust/examples/two_servers.rs"]}, 5),
+    "docs/WEIGHTS.md": ({"c": ["examples/c/weights.c"]}, 3),
+}
 
 # what a page has to say, once, in whatever lines
 SAID = {
@@ -54,11 +58,25 @@ def quoted(page):
     """Texts and outputs that a page quotes, each the whole of a file."""
     files = {open(path, encoding="utf-8").read() for path in glob.glob("docs/sheets/*") + glob.glob("docs/keys/*") + glob.glob("examples/c/*.out")}
     blocks = [re.sub("^    ", "", block, flags=re.M) for block in re.findall(r"(?:^    .+\n)+", open(page, encoding="utf-8").read(), re.M)]
-    found = [block for block in blocks if re.match(r"control |[01]+ \d+\n|\d+ \d+ [01]+ ", block)]
+    found = [block for block in blocks if re.match(r"control |[01]+ -?\d+\n|\d+ \d+ [01]+ ", block)]
     for block in found:
         if block not in files:
             sys.exit("pages_test: %s quotes what no sheet, key or example has: %s" % (page, block))
     return len(found)
+
+
+def program_lines(page, programs, least):
+    """Blocks of a program that a page quotes, each line of which stands in one of its programs."""
+    blocks = re.findall(r"^```(.*)\n((?:.*\n)*?)```$", open(page, encoding="utf-8").read(), re.M)
+    if len(blocks) < least:
+        sys.exit("pages_test: %s quotes %d blocks only" % (page, len(blocks)))
+    for language, block in blocks:
+        if language not in programs:
+            sys.exit("pages_test: a block of %s names no language of a program: '%s'" % (page, language))
+        lines = {line for path in programs[language] for line in open(path, encoding="utf-8").read().splitlines()}
+        for line in block.splitlines():
+            if line not in lines:
+                sys.exit("pages_test: %s quotes a line that no program has: %s" % (page, line))
 
 
 def refusals(program, text):
@@ -75,8 +93,9 @@ def refusals(program, text):
 
 def main():
     exam, key = open("docs/EXAM.md", encoding="utf-8").read().split("\n## The key program\n")
-    if quoted("docs/EXAM.md") < 6 or quoted("README.md") < 3:
-        sys.exit("pages_test: docs/EXAM.md or the README quotes too little")
+    for page, least in [("docs/EXAM.md", 6), ("README.md", 3), ("docs/WEIGHTS.md", 1)]:
+        if quoted(page) < least:
+            sys.exit("pages_test: %s quotes too little" % page)
     for program, text, least in [("target/bin/exam", exam, 13), ("target/bin/key", key, 8)]:
         if not os.access(program, os.X_OK):
             sys.exit("pages_test: %s is not built" % program)
@@ -85,22 +104,13 @@ def main():
     for page, sentences in SAID.items():
         says(page, open(page, encoding="utf-8").read(), sentences)
     says("docs/EXAM.md before A", key.split("\n## A\n")[0], RULES)
-    page = open("docs/SERVERS.md", encoding="utf-8").read()
-    blocks = re.findall(r"^```(.*)\n((?:.*\n)*?)```$", page, re.M)
-    if len(blocks) < 5:
-        sys.exit("pages_test: docs/SERVERS.md quotes %d blocks only" % len(blocks))
-    for language, block in blocks:
-        if language not in PROGRAMS:
-            sys.exit("pages_test: a block of docs/SERVERS.md names no language of a program: '%s'" % language)
-        lines = {line for path in PROGRAMS[language] for line in open(path, encoding="utf-8").read().splitlines()}
-        for line in block.splitlines():
-            if line not in lines:
-                sys.exit("pages_test: docs/SERVERS.md quotes a line that no program has: %s" % line)
+    for page, (programs, least) in PROGRAMS.items():
+        program_lines(page, programs, least)
     led = links("README.md")
     for path in sorted(glob.glob("docs/*.md") + glob.glob("docs/landings/*.md") + ["CHANGELOG.md"]):
         if path not in led:
             sys.exit("pages_test: the README does not lead to %s" % path)
-    for path in sorted(led | links("docs/SERVERS.md") | links("docs/EXAM.md") | links("CHANGELOG.md")):
+    for path in sorted(led | links("docs/SERVERS.md") | links("docs/WEIGHTS.md") | links("docs/EXAM.md") | links("CHANGELOG.md")):
         if not os.path.exists(path):
             sys.exit("pages_test: a link leads to %s, which is not there" % path)
 

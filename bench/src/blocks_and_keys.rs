@@ -71,10 +71,11 @@ fn keys(calls: usize, n: usize, make: impl Fn(&[u8], [Seed; 2], &mut [u8])) -> V
     out
 }
 
-/// Keys of n levels in plain Rust.
+/// Keys of n levels with a weight, in plain Rust.
 #[derive(Clone, Copy)]
 pub struct Keys {
     pub n: usize,
+    pub weight: i16,
 }
 
 impl Work for Keys {
@@ -82,29 +83,35 @@ impl Work for Keys {
 
     fn run<A: Aes>(self, aes: A, calls: usize) -> Vec<u8> {
         keys(calls, self.n, |string, seeds, out| {
-            plain_idpf::make_key(aes, self.n, string, seeds, out)
+            plain_idpf::make_key(aes, self.n, self.weight, string, seeds, out)
         })
     }
 }
 
-/// Keys of n levels by the proved library.
-pub fn proved_keys(n: usize, calls: usize) -> Vec<u8> {
+/// Keys of n levels with a weight, by the proved library.
+pub fn proved_keys(Keys { n, weight }: Keys, calls: usize) -> Vec<u8> {
+    let (bits, expander) = (n as u64, Expander::Aes);
     keys(calls, n, |string, [s0, s1], out| {
-        let made = tally::make_key_into(n as u64, Expander::Aes, string, &s0, &s1, out);
+        let made = tally::make_weighted_key_into(bits, expander, weight, string, &s0, &s1, out);
         assert_eq!(made, Ok(out.len()));
     })
 }
 
-/// One key of n levels.
-pub fn measure_key(plan: &Plan, n: usize) -> Timed {
+/// One key of n levels, with weight one or another.
+pub fn measure_key(plan: &Plan, n: usize, weight: i16) -> Timed {
+    let weighing = match weight {
+        1 => String::new(),
+        _ => format!(", weight {weight}"),
+    };
     let measure = Measure {
-        title: format!("one key, n = {n}"),
+        title: format!("one key, n = {n}{weighing}"),
         cleared: "no, reused",
         calls: plan.calls(12_800 / n),
         parts: 1,
         rounds: plan.rounds,
     };
-    let mut subjects = vec![Subject::proved(|c| proved_keys(n, c))];
-    subjects.extend(over_each("", Keys { n }));
+    let work = Keys { n, weight };
+    let mut subjects = vec![Subject::proved(|c| proved_keys(work, c))];
+    subjects.extend(over_each("", work));
     measure.compare(subjects)
 }

@@ -8,6 +8,7 @@ use crate::shares::{Lent, Shares};
 use crate::timing::human;
 use crate::Plan;
 use std::time::Instant;
+use tally::{Expander, Settings};
 
 /// One size of a measure: the run, and the output that is due.
 struct Size<'a> {
@@ -37,17 +38,20 @@ fn grow(title: String, calls: usize, rounds: usize, sizes: Vec<Size>) -> Grown {
 }
 
 /// Numbers with commas between them.
-fn listed(numbers: &[usize]) -> String {
-    let written: Vec<String> = numbers.iter().map(usize::to_string).collect();
+fn listed<T: ToString>(numbers: &[T]) -> String {
+    let written: Vec<String> = numbers.iter().map(T::to_string).collect();
     written.join(", ")
 }
 
 /// Keys as n doubles.
 fn keys(plan: &Plan, ns: &[usize]) -> Grown {
     let calls = plan.calls(40);
-    let size = |&n: &usize| Size {
-        proved: Box::new(move || proved_keys(n, calls)),
-        due: quickest(Keys { n }, calls),
+    let size = |&n: &usize| {
+        let work = Keys { n, weight: 1 };
+        Size {
+            proved: Box::new(move || proved_keys(work, calls)),
+            due: quickest(work, calls),
+        }
     };
     let title = format!("one key, n = {}", listed(ns));
     grow(title, calls, plan.rounds, ns.iter().map(size).collect())
@@ -70,11 +74,12 @@ fn shares(plan: &Plan, ns: &[usize]) -> Grown {
 }
 
 /// Whole searches of each n with each number of reports, one round.
-fn searches(ns: &[usize], counts: &[usize]) -> Grown {
+fn searches(ns: &[u64], counts: &[usize]) -> Grown {
     let t = 10;
     let walk = Walk::Shared;
     let with = |n| {
-        let made = move |&count: &usize| Collection::new(n, count, t);
+        let settings = Settings::new(n, t, Expander::Aes);
+        let made = move |&count: &usize| Collection::new(settings, count);
         counts.iter().map(made)
     };
     let all: Vec<Collection> = ns.iter().flat_map(|&n| with(n)).collect();

@@ -63,12 +63,17 @@ fn main() {
     };
     add(blocks_and_keys::measure_block(&plan));
     for n in [32, 256] {
-        add(blocks_and_keys::measure_key(&plan, n));
+        add(blocks_and_keys::measure_key(&plan, n, 1));
+        add(blocks_and_keys::measure_key(&plan, n, i16::MIN));
         add(shares::measure_share(&plan, n, 1));
         add(shares::measure_share(&plan, n, 2));
     }
-    add(combining::measure_combining(&plan));
-    add(searching::measure_search(&plan));
+    for weighted in [false, true] {
+        add(combining::measure_combining(&plan, weighted));
+    }
+    for weighted in [false, true] {
+        add(searching::measure_search(&plan, weighted));
+    }
     let grown = growth::measure_growth(&plan);
     if !plan.check {
         markdown::print_ratios(&all);

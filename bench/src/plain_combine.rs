@@ -54,16 +54,38 @@ pub fn minus(x: u64, y: u64) -> u64 {
     add(x, (P - y) % P)
 }
 
+/// A total as a weighted search reads it.
+fn signed(total: u64) -> i64 {
+    match total <= (P - 1) / 2 {
+        true => total as i64,
+        false => total.wrapping_sub(P) as i64,
+    }
+}
+
+/// Whether a total reaches the threshold, as a number or read as a signed one.
+fn reaches(weighted: bool, t: u64, total: u64) -> bool {
+    match weighted {
+        true => signed(total) >= t as i64,
+        false => total >= t,
+    }
+}
+
 /// Whether each prefix is kept, in order.
-fn kept<'a>(t: u64, share0: &'a [u8], share1: &'a [u8]) -> impl Iterator<Item = bool> + 'a {
+fn kept<'a>(
+    weighted: bool,
+    t: u64,
+    share0: &'a [u8],
+    share1: &'a [u8],
+) -> impl Iterator<Item = bool> + 'a {
     numbers(share0)
         .zip(numbers(share1))
-        .map(move |(x, y)| add(x, y) >= t)
+        .map(move |(x, y)| reaches(weighted, t, add(x, y)))
 }
 
 /// Combines two shares for a query into the next query or the list.
 pub fn combine(
     n: usize,
+    weighted: bool,
     t: u64,
     query: &[u8],
     share0: &[u8],
@@ -73,8 +95,12 @@ pub fn combine(
     if !(1..=256).contains(&n) {
         return Answer::Refused(1);
     }
-    if !(1..=65_535).contains(&t) {
-        return Answer::Refused(2);
+    let (most, outside) = match weighted {
+        true => (2_147_483_647, 12),
+        false => (65_535, 2),
+    };
+    if !(1..=most).contains(&t) {
+        return Answer::Refused(outside);
     }
     let read = read_query(n, query);
     let wrong_count = |(_, count)| share0.len() != 8 * count;
@@ -88,8 +114,9 @@ pub fn combine(
         return Answer::Refused(9);
     };
     let size = length.div_ceil(8);
-    let keep = kept(t, share0, share1).filter(|&k| k).count();
-    let prefixes = query[6..].chunks_exact(size).zip(kept(t, share0, share1));
+    let kept = || kept(weighted, t, share0, share1);
+    let keep = kept().filter(|&k| k).count();
+    let prefixes = query[6..].chunks_exact(size).zip(kept());
     if length == n {
         let need = keep * size;
         if out.len() < need {

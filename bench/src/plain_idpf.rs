@@ -12,6 +12,14 @@ fn negate(x: u64) -> u64 {
     (P - x % P) % P
 }
 
+/// The group number of a weight.
+fn of_weight(weight: i16) -> u64 {
+    match weight {
+        0.. => weight as u64,
+        _ => negate(weight.unsigned_abs() as u64),
+    }
+}
+
 fn xor(a: Seed, b: Seed) -> Seed {
     (u128::from_ne_bytes(a) ^ u128::from_ne_bytes(b)).to_ne_bytes()
 }
@@ -35,8 +43,15 @@ pub fn public_share_length(n: usize) -> usize {
     n.div_ceil(4) + 24 * n
 }
 
-/// The public share of a string of n bits.
-pub fn make_key(aes: impl Aes, n: usize, string: &[u8], seeds: [Seed; 2], out: &mut [u8]) {
+/// The public share of a string of n bits with a weight.
+pub fn make_key(
+    aes: impl Aes,
+    n: usize,
+    weight: i16,
+    string: &[u8],
+    seeds: [Seed; 2],
+    out: &mut [u8],
+) {
     let head = n.div_ceil(4);
     out[..head].fill(0);
     let mut nodes = [(seeds[0], false), (seeds[1], true)];
@@ -58,7 +73,7 @@ pub fn make_key(aes: impl Aes, n: usize, string: &[u8], seeds: [Seed; 2], out: &
             drawn[b] = draw(aes.block(&s, 3));
             nodes[b] = (aes.block(&s, 2), t);
         }
-        let mut payload = add(add(1, negate(drawn[0])), drawn[1]);
+        let mut payload = add(add(of_weight(weight), negate(drawn[0])), drawn[1]);
         if nodes[1].1 {
             payload = negate(payload);
         }

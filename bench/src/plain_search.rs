@@ -4,7 +4,7 @@ use crate::aes::Aes;
 use crate::plain_combine::{self, Answer};
 use crate::plain_idpf::add;
 use crate::plain_share::{well_formed, write_sums, Walk};
-use tally::Reports;
+use tally::{Reports, Settings};
 
 /// Writes the totals of two shares, 8 bytes each.
 fn write_totals(shares: &[Vec<u8>; 2], out: &mut [u8]) {
@@ -20,12 +20,12 @@ fn write_totals(shares: &[Vec<u8>; 2], out: &mut [u8]) {
 pub fn search(
     aes: impl Aes,
     walk: Walk,
-    n: usize,
-    t: u64,
+    settings: Settings,
     servers: [Reports; 2],
     record: &mut [u8],
     list: &mut [u8],
 ) -> Option<(usize, usize)> {
+    let (n, weighted, t) = (settings.n as usize, settings.weighted, settings.threshold);
     let [zero, one] = servers;
     if !well_formed(n, zero) || !well_formed(n, one) || zero.public_shares != one.public_shares {
         return None;
@@ -48,7 +48,7 @@ pub fn search(
         write_totals(&shares, &mut record[totals_at..end]);
         used = end;
         let mut out = vec![0; 6 + 2 * count * (length + 1).div_ceil(8)];
-        match plain_combine::combine(n, t, &query, &shares[0], &shares[1], &mut out) {
+        match plain_combine::combine(n, weighted, t, &query, &shares[0], &shares[1], &mut out) {
             Answer::Next(size) => query = out[..size].to_vec(),
             Answer::Ended => return Some((used, 0)),
             Answer::List(size) if size <= list.len() => {

@@ -5,15 +5,15 @@ use crate::plain_share::Walk;
 use crate::timing::{Measure, Subject, Timed};
 use crate::Plan;
 use crate::{plain_idpf, plain_search};
-use tally::{Expander, Reports};
+use tally::{Expander, Reports, Settings};
 
 /// Record and list of a search.
 pub type Found = (Vec<u8>, Vec<u8>);
 
-/// An honest collection: the reports lent to each server for strings of n bits, ten of which are held by one installation in fifty each.
+/// An honest collection: the reports lent to each server for strings of n bits, ten of which are held by one installation in fifty each. In a
+/// weighted search the same strings weigh from −2 to 4, and one on average.
 pub struct Collection {
-    n: usize,
-    t: u64,
+    settings: Settings,
     seeds: [Vec<Seed>; 2],
     public_shares: Vec<u8>,
 }
@@ -42,11 +42,10 @@ fn held(n: usize, i: usize, next: &mut impl FnMut() -> u64) -> Vec<u8> {
 }
 
 impl Collection {
-    pub fn new(n: usize, count: usize, t: u64) -> Collection {
-        let mut next = numbers();
+    pub fn new(settings: Settings, count: usize) -> Collection {
+        let (n, mut next) = (settings.n as usize, numbers());
         let mut made = Collection {
-            n,
-            t,
+            settings,
             seeds: [Vec::new(), Vec::new()],
             public_shares: Vec::new(),
         };
@@ -57,7 +56,12 @@ impl Collection {
                 seed[..8].copy_from_slice(&(i as u64).to_le_bytes());
                 seed
             });
-            plain_idpf::make_key(SameCode, n, &held(n, i, &mut next), seeds, &mut key);
+            let weight = match settings.weighted {
+                true => (i % 7) as i16 - 2,
+                false => 1,
+            };
+            let string = held(n, i, &mut next);
+            plain_idpf::make_key(SameCode, n, weight, &string, seeds, &mut key);
             for (all, seed) in made.seeds.iter_mut().zip(seeds) {
                 all.push(seed);
             }
@@ -85,9 +89,9 @@ impl Collection {
 
     /// The proved search.
     pub fn proved(&self) -> Found {
-        let (n, [zero, one]) = (self.n as u64, self.lent());
+        let [zero, one] = self.lent();
         self.found(|record, list| {
-            let made = tally::search_into(n, self.t, Expander::Aes, zero, one, record, list);
+            let made = self.settings.search_into(zero, one, record, list);
             made.ok().map(|found| (found.record, found.list))
         })
     }
@@ -104,29 +108,34 @@ impl Work for Searches<'_> {
     type Output = Found;
 
     fn run<A: Aes>(self, aes: A, _: usize) -> Found {
-        let Collection { n, t, .. } = self.collection;
-        let lent = self.collection.lent();
-        self.collection
-            .found(|record, list| plain_search::search(aes, self.walk, *n, *t, lent, record, list))
+        let (settings, lent) = (self.collection.settings, self.collection.lent());
+        self.collection.found(|record, list| {
+            plain_search::search(aes, self.walk, settings, lent, record, list)
+        })
     }
 }
 
-/// A whole search of 1,000 reports, or a small one for a check.
-pub fn measure_search(plan: &Plan) -> Timed {
+/// A whole search of 1,000 reports, or a small one for a check; a weighted one only by the shared walk.
+pub fn measure_search(plan: &Plan, weighted: bool) -> Timed {
     let (n, count, t) = match plan.check {
         true => (16, 50, 2),
         false => (32, 1_000, 10),
     };
+    let settings = Settings::new(n, t, Expander::Aes);
+    let (settings, kind, walks) = match weighted {
+        true => (settings.weighted(), "weighted", &[Walk::Shared][..]),
+        false => (settings, "whole", &[Walk::FromRoot, Walk::Shared][..]),
+    };
     let measure = Measure {
-        title: format!("a whole search, C = {count}, n = {n}, t = {t}"),
+        title: format!("a {kind} search, C = {count}, n = {n}, t = {t}"),
         cleared: "yes, made anew as zero bytes",
         calls: 1,
         parts: 1,
         rounds: plan.few(),
     };
-    let collection = Collection::new(n, count, t);
+    let collection = Collection::new(settings, count);
     let mut subjects = vec![Subject::proved(|_| collection.proved())];
-    for walk in [Walk::FromRoot, Walk::Shared] {
+    for &walk in walks {
         let collection = &collection;
         subjects.extend(over_each(walk.name(), Searches { collection, walk }));
     }

@@ -21,7 +21,7 @@ impl Lent {
         let mut prefix = string(n);
         let mut key = vec![0u8; plain_idpf::public_share_length(n)];
         let seeds = [[1; 16], [2; 16]];
-        plain_idpf::make_key(SameCode, n, &prefix, seeds, &mut key);
+        plain_idpf::make_key(SameCode, n, 1, &prefix, seeds, &mut key);
         let mut query = Vec::new();
         query.extend_from_slice(&(n as u16 - 1).to_be_bytes());
         query.extend_from_slice(&(count as u32).to_be_bytes());

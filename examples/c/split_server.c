@@ -58,7 +58,7 @@ static void report(size_t i, server *zero, server *one)
     const size_t size = TALLY_PUBLIC_SHARE_LENGTH(N), seed = TALLY_SEED_LENGTH;
     draw(2 * i, zero->seeds + i * seed);
     draw(2 * i + 1, one->seeds + i * seed);
-    must_pass("tally_key", tally_key(N, TALLY_EXPANDER_AES, strings + i, 1, zero->seeds + i * seed, seed, one->seeds + i * seed, seed,
+    must_pass("tally_key", tally_key(N, TALLY_EXPANDER_AES, 1, strings + i, 1, zero->seeds + i * seed, seed, one->seeds + i * seed, seed,
                                      zero->public_shares + i * size, size).number);
     memcpy(one->public_shares + i * size, zero->public_shares + i * size, size);
 }
@@ -114,7 +114,8 @@ static void collect(const server *zero, const server *one)
         for (size_t i = 0; i < length0 / 8; i++)
             if (T <= total(totals, i))
                 parents[kept++] = total(totals, i);
-        tally_combine_reply reply = tally_combine(N, T, query, query_length, share0, length0, share1, length1, out, sizeof out);
+        tally_combine_reply reply = tally_combine(N, TALLY_UNWEIGHTED, T, query, query_length, share0, length0, share1, length1, out,
+                                                  sizeof out);
         must_pass("tally_combine", reply.number);
         if (reply.kind != TALLY_KIND_NEXT) {
             for (size_t at = 0; at < reply.length; at += TALLY_PACKED_LENGTH(N))
@@ -136,8 +137,8 @@ int main(void)
     printf("the shares of 2 and of 3 reports add to the share of 5\n");
 
     uint8_t record[TALLY_QUERY_LENGTH(1, 2) + TALLY_SHARE_LENGTH(2)];
-    tally_found found = tally_search(1, 1, TALLY_EXPANDER_AES, TALLY_EMPTY, 0, TALLY_EMPTY, 0, TALLY_EMPTY, 0, TALLY_EMPTY, 0, record,
-                                     sizeof record, TALLY_EMPTY, 0);
+    tally_found found = tally_search(1, TALLY_UNWEIGHTED, 1, TALLY_EXPANDER_AES, TALLY_EMPTY, 0, TALLY_EMPTY, 0, TALLY_EMPTY, 0, TALLY_EMPTY, 0,
+                                     record, sizeof record, TALLY_EMPTY, 0);
     must_pass("tally_search", found.number);
     printf("no reports: totals %d and %d, %d heavy\n", (int)total(record + TALLY_QUERY_LENGTH(1, 2), 0),
            (int)total(record + TALLY_QUERY_LENGTH(1, 2), 1), (int)found.list_length);

@@ -68,7 +68,7 @@ static void report(const installation *from, size_t i, server *zero, server *one
 {
     const size_t length = TALLY_PUBLIC_SHARE_LENGTH(N);
     uint8_t *public_share = zero->public_shares + i * length;
-    tally_reply reply = tally_key(N, TALLY_EXPANDER_AES, from->string, sizeof from->string, from->seed0, sizeof from->seed0,
+    tally_reply reply = tally_key(N, TALLY_EXPANDER_AES, 1, from->string, sizeof from->string, from->seed0, sizeof from->seed0,
                                   from->seed1, sizeof from->seed1, public_share, length);
     must_pass("tally_key", reply.number);
     memcpy(one->public_shares + i * length, public_share, length);
@@ -149,7 +149,7 @@ static void collect(const server *zero, const server *one, collected *into)
         size_t length0 = answer(zero, query, query_length, share0, sizeof share0);
         size_t length1 = answer(one, query, query_length, share1, sizeof share1);
         tally_combine_reply reply =
-            tally_combine(N, T, query, query_length, share0, length0, share1, length1, out, sizeof out);
+            tally_combine(N, TALLY_UNWEIGHTED, T, query, query_length, share0, length0, share1, length1, out, sizeof out);
         must_pass("tally_combine", reply.number);
         note_level(into, query, query_length, share0, share1, length0 / 8);
         if (reply.kind == TALLY_KIND_NEXT) {
@@ -168,8 +168,8 @@ static void collect(const server *zero, const server *one, collected *into)
 // Whether the whole search on the same reports gives the same record and list.
 static bool search_agrees(const server *zero, const server *one, const collected *expected)
 {
-    size_t record_space = (size_t)tally_record_space(N, T, REPORTS);
-    size_t list_space = (size_t)tally_list_space(N, T, REPORTS);
+    size_t record_space = (size_t)tally_record_space(N, TALLY_UNWEIGHTED, T, REPORTS);
+    size_t list_space = (size_t)tally_list_space(N, TALLY_UNWEIGHTED, T, REPORTS);
     // One byte more, so that no pointer is null where the space is 0.
     uint8_t *record = malloc(record_space + 1);
     uint8_t *list = malloc(list_space + 1);
@@ -177,9 +177,9 @@ static bool search_agrees(const server *zero, const server *one, const collected
         fprintf(stderr, "no memory\n");
         exit(EXIT_FAILURE);
     }
-    tally_found found = tally_search(N, T, TALLY_EXPANDER_AES, zero->seeds, sizeof zero->seeds, zero->public_shares,
-                                     sizeof zero->public_shares, one->seeds, sizeof one->seeds, one->public_shares,
-                                     sizeof one->public_shares, record, record_space, list, list_space);
+    tally_found found = tally_search(N, TALLY_UNWEIGHTED, T, TALLY_EXPANDER_AES, zero->seeds, sizeof zero->seeds,
+                                     zero->public_shares, sizeof zero->public_shares, one->seeds, sizeof one->seeds,
+                                     one->public_shares, sizeof one->public_shares, record, record_space, list, list_space);
     must_pass("tally_search", found.number);
     bool agrees = found.record_length == expected->record_length && found.list_length == expected->list_length &&
                   memcmp(record, expected->record, expected->record_length) == 0 &&

@@ -2,17 +2,18 @@
 
 use crate::read::numbers;
 use crate::{
-    add_shares, combine, share_length, Answer, BitString, Found, Query, Refusal, BITS_MOST,
-    FIRST_QUERY, REPORTS_MOST, THRESHOLD_MOST,
+    add_shares, share_length, Answer, BitString, CollectorError, Expander, Found, Query, Refusal,
+    Settings, BITS_MOST, FIRST_QUERY, REPORTS_MOST, THRESHOLD_MOST, WEIGHTED_THRESHOLD_MOST,
 };
-use std::error::Error;
-use std::fmt;
 
 /// Plays the loop of a search between two servers: it gives the query that both are to answer, takes their shares, and so on until the list.
 ///
 /// With honest servers and reports the totals of `0` and `1` add to the number of reports, and the totals of two children to that of their
 /// parent. Where they do not, a server left out or repeated a report or sent other numbers, or a report is ill-formed; [`Collector::answers`]
 /// then names the prefix. Totals that add up are no proof of honesty: a count moved from a prefix to its sibling is not seen.
+///
+/// In a weighted search, which [`Settings::collector`] begins, the first two totals may add to anything that the reports' weights can. The
+/// totals of two children add to that of their parent as signed numbers, and no total is beyond what the weights of all reports can add to.
 ///
 /// ```
 /// use tally::{make_key, share, Collector, CollectorError, Expander, Reports, Server};
@@ -33,8 +34,9 @@ use std::fmt;
 /// ```
 #[derive(Clone, Debug, PartialEq, Eq)]
 pub struct Collector {
-    n: u64,
-    t: u64,
+    settings: Settings,
+    reports: i64,
+    every_weight_one: bool,
     record: Vec<u8>,
     state: State,
 }
@@ -43,54 +45,19 @@ pub struct Collector {
 #[derive(Clone, Debug, PartialEq, Eq)]
 enum State {
     /// It waits for answers to a query, which has two children of each parent: a kept prefix, with its total. In the first round the parent is
-    /// the empty prefix, with the number of reports.
+    /// the empty prefix, with the number of reports, and there is none where weights may differ from one.
     Asking {
         query: Vec<u8>,
-        parents: Vec<(BitString, u64)>,
+        parents: Vec<(BitString, i128)>,
     },
     /// The search is over, with this list.
     Over { list: Vec<u8> },
 }
 
-/// Why a collector did not take two answers. It is then as it was before.
-///
-/// ```
-/// use tally::{BitString, CollectorError};
-///
-/// let error = CollectorError::Children {
-///     prefix: BitString::from_digits("01").unwrap(),
-///     expected: 5,
-///     found: 4,
-/// };
-/// assert_eq!(error.to_string(), "the totals of 010 and 011 add to 4, not to 5, the total of 01");
-/// ```
-#[non_exhaustive]
-#[derive(Clone, Copy, Debug, PartialEq, Eq)]
-pub enum CollectorError {
-    /// A share has not 8 bytes for each prefix of the query, or has a number that is p or more.
-    Refused(Refusal),
-    /// The first totals, those of `0` and `1`, do not add to the agreed number of reports.
-    FirstTotals {
-        /// What they should add to: the number of reports.
-        expected: u64,
-        /// The sum, as a whole number.
-        found: u128,
-    },
-    /// The totals of the two children of a kept prefix do not add to its own.
-    Children {
-        /// The kept prefix.
-        prefix: BitString,
-        /// Its total.
-        expected: u64,
-        /// The sum of its children's totals, as a whole number.
-        found: u128,
-    },
-    /// The search is over, so no answers are due.
-    Over,
-}
-
 impl Collector {
     /// A collector for strings of n bits, the threshold t, and the number of reports that both servers hold.
+    ///
+    /// It is [`Settings::collector`] with the usual settings.
     ///
     /// ```
     /// use tally::{Collector, FIRST_QUERY};
@@ -105,25 +72,17 @@ impl Collector {
     /// * 2, [`Refusal::Threshold`];
     /// * 5, [`Refusal::TooManyReports`].
     pub fn new(n: u64, t: u64, reports: usize) -> Result<Collector, Refusal> {
-        if !(1..=BITS_MOST).contains(&n) {
-            return Err(Refusal::StringLength);
+        Settings::new(n, t, Expander::Aes).collector(reports)
+    }
+
+    /// The collector told that every weight of a weighted search is one, as those of another search are without saying: before the first answers
+    /// are taken, it then expects the first two totals to add to the number of reports; and no total below 0 or above that number.
+    pub fn with_every_weight_one(mut self) -> Collector {
+        self.every_weight_one = true;
+        if let (State::Asking { parents, .. }, true) = (&mut self.state, self.record.is_empty()) {
+            *parents = vec![(BitString::default(), i128::from(self.reports))];
         }
-        if !(1..=THRESHOLD_MOST).contains(&t) {
-            return Err(Refusal::Threshold);
-        }
-        if reports > REPORTS_MOST {
-            return Err(Refusal::TooManyReports);
-        }
-        let state = State::Asking {
-            query: FIRST_QUERY.to_vec(),
-            parents: vec![(BitString::default(), reports as u64)],
-        };
-        Ok(Collector {
-            n,
-            t,
-            record: Vec::new(),
-            state,
-        })
+        self
     }
 
     /// The query that both servers are to answer; `None` when the search is over.
@@ -140,7 +99,7 @@ impl Collector {
     }
 
     /// Takes the shares of server 0 and server 1 for the [`query`](Collector::query): checks that their totals add up, and goes on to the next
-    /// query, or to the list, as [`combine`] answers.
+    /// query, or to the list, as [`Settings::combine`] answers.
     ///
     /// ```
     /// use tally::{Collector, CollectorError};
@@ -160,10 +119,13 @@ impl Collector {
     /// * [`CollectorError::Over`];
     /// * [`CollectorError::Refused`] with 4, [`Refusal::InputLength`]: a share has not 8 bytes for each prefix of the query;
     /// * [`CollectorError::Refused`] with 6, [`Refusal::GroupNumber`];
-    /// * [`CollectorError::FirstTotals`], in the first round;
-    /// * [`CollectorError::Children`], in later rounds, of the first prefix to which it applies.
+    /// * [`CollectorError::Beyond`], in a weighted search, of the first prefix to which it applies;
+    /// * [`CollectorError::FirstTotals`], in the first round, where every weight is one;
+    /// * [`CollectorError::Children`], in later rounds, of the first prefix to which it applies;
+    /// * [`CollectorError::Refused`] with 11, [`Refusal::Space`], in a weighted search: the next query would pass 131,070 prefixes, which honest
+    ///   reports never do.
     ///
-    /// No query becomes too long, since totals that add up keep no more prefixes than there are reports.
+    /// In a search that is not weighted no query becomes too long, since totals that add up keep no more prefixes than there are reports.
     pub fn answers(&mut self, share0: &[u8], share1: &[u8]) -> Result<(), CollectorError> {
         let State::Asking { query, parents } = &self.state else {
             return Err(CollectorError::Over);
@@ -173,13 +135,19 @@ impl Collector {
             return Err(CollectorError::Refused(Refusal::InputLength));
         }
         let totals = add_shares(share0, share1)?;
-        add_up(parents, &totals)?;
-        let next = match combine(self.n, self.t, query, share0, share1)? {
+        let read = |bytes| numbers(bytes).map(|total| self.settings.read(total));
+        let weighed = || Query::new(query).map(|query| query.prefixes().zip(read(&totals)));
+        self.within(weighed()?)?;
+        add_up(
+            parents,
+            totals.chunks_exact(16).map(|pair| read(pair).sum()),
+        )?;
+        let next = match self.settings.combine(query, share0, share1)? {
             Answer::Next(next) => {
-                let counted = Query::new(query)?.prefixes().zip(numbers(&totals));
+                let least = i128::from(self.settings.threshold);
                 State::Asking {
                     query: next,
-                    parents: counted.filter(|&(_, total)| self.t <= total).collect(),
+                    parents: weighed()?.filter(|&(_, total)| least <= total).collect(),
                 }
             }
             Answer::List(list) => State::Over { list },
@@ -189,6 +157,26 @@ impl Collector {
         self.record.extend(&totals);
         self.state = next;
         Ok(())
+    }
+
+    /// Refuses totals of a weighted search that are beyond what the weights of all reports can add to.
+    fn within(
+        &self,
+        mut weighed: impl Iterator<Item = (BitString, i128)>,
+    ) -> Result<(), CollectorError> {
+        let (least, most) = match self.every_weight_one {
+            true => (0, 1),
+            false => (i16::MIN, i16::MAX),
+        };
+        let [least, most] =
+            [least, most].map(|weight| i128::from(weight) * i128::from(self.reports));
+        let beyond = |&(_, total): &(BitString, i128)| total < least || most < total;
+        match weighed.find(beyond) {
+            Some((prefix, found)) if self.settings.weighted => {
+                Err(CollectorError::Beyond { prefix, found })
+            }
+            _ => Ok(()),
+        }
     }
 
     /// The record so far: each answered query followed by its totals, as the whole search writes it; [`Record`](crate::Record) reads it.
@@ -224,51 +212,74 @@ impl Collector {
     }
 }
 
-/// Refuses totals of which two children do not add, as whole numbers, to their parent's.
-fn add_up(parents: &[(BitString, u64)], totals: &[u8]) -> Result<(), CollectorError> {
-    for (&(prefix, expected), children) in parents.iter().zip(totals.chunks_exact(16)) {
-        let found: u128 = numbers(children).map(u128::from).sum();
-        if found == u128::from(expected) {
-            continue;
+impl Settings {
+    /// A collector for these settings, and the number of reports that both servers hold; it does not ask for the expander.
+    ///
+    /// ```
+    /// use tally::{CollectorError, Expander, Settings, GROUP_ORDER};
+    ///
+    /// // Two reports weigh 700 and −200 bytes: the totals are −200 for `0` and 700 for `1`.
+    /// let mut collector = Settings::new(1, 500, Expander::Aes).weighted().collector(2)?;
+    /// let share0 = [(GROUP_ORDER - 200).to_le_bytes(), 700u64.to_le_bytes()].concat();
+    /// collector.answers(&share0, &[0; 16])?;
+    /// assert_eq!(collector.list(), Some(&[0x80][..]));
+    /// # Ok::<(), CollectorError>(())
+    /// ```
+    ///
+    /// # Errors
+    ///
+    /// * 1, [`Refusal::StringLength`];
+    /// * 2, [`Refusal::Threshold`], or in a weighted search 12, [`Refusal::WeightedThreshold`];
+    /// * 5, [`Refusal::TooManyReports`].
+    pub fn collector(&self, reports: usize) -> Result<Collector, Refusal> {
+        let (most, outside) = match self.weighted {
+            true => (WEIGHTED_THRESHOLD_MOST, Refusal::WeightedThreshold),
+            false => (THRESHOLD_MOST, Refusal::Threshold),
+        };
+        if !(1..=BITS_MOST).contains(&self.n) {
+            return Err(Refusal::StringLength);
         }
-        return Err(if prefix.length() == 0 {
-            CollectorError::FirstTotals { expected, found }
-        } else {
-            CollectorError::Children {
-                prefix,
-                expected,
-                found,
-            }
-        });
-    }
-    Ok(())
-}
-
-impl From<Refusal> for CollectorError {
-    fn from(refusal: Refusal) -> CollectorError {
-        CollectorError::Refused(refusal)
-    }
-}
-
-impl fmt::Display for CollectorError {
-    fn fmt(&self, f: &mut fmt::Formatter<'_>) -> fmt::Result {
-        match self {
-            CollectorError::Refused(refusal) => write!(f, "{refusal}"),
-            CollectorError::FirstTotals { expected, found } => write!(
-                f,
-                "the totals of 0 and 1 add to {found}, not to {expected}, the number of reports"
-            ),
-            CollectorError::Children {
-                prefix,
-                expected,
-                found,
-            } => write!(
-                f,
-                "the totals of {prefix}0 and {prefix}1 add to {found}, not to {expected}, the total of {prefix}"
-            ),
-            CollectorError::Over => f.write_str("the search is over, so no answers are due"),
+        if !(1..=most).contains(&self.threshold) {
+            return Err(outside);
         }
+        if reports > REPORTS_MOST {
+            return Err(Refusal::TooManyReports);
+        }
+        let collector = Collector {
+            settings: *self,
+            reports: reports as i64,
+            every_weight_one: false,
+            record: Vec::new(),
+            state: State::Asking {
+                query: FIRST_QUERY.to_vec(),
+                parents: Vec::new(),
+            },
+        };
+        Ok(match self.weighted {
+            true => collector,
+            false => collector.with_every_weight_one(),
+        })
     }
 }
 
-impl Error for CollectorError {}
+/// Refuses sums of two children's totals that are not their parent's total.
+fn add_up(
+    parents: &[(BitString, i128)],
+    sums: impl Iterator<Item = i128>,
+) -> Result<(), CollectorError> {
+    match parents
+        .iter()
+        .zip(sums)
+        .find(|((_, total), sum)| total != sum)
+    {
+        None => Ok(()),
+        Some((&(prefix, expected), found)) if prefix.length() == 0 => {
+            Err(CollectorError::FirstTotals { expected, found })
+        }
+        Some((&(prefix, expected), found)) => Err(CollectorError::Children {
+            prefix,
+            expected,
+            found,
+        }),
+    }
+}

@@ -1,8 +1,10 @@
 //! Two servers' shares made into the next query or the list.
 
-use crate::{accepted, answer_space, Answer, Refusal};
+use crate::{accepted, answer_space, Answer, Expander, Refusal, Settings};
 
 /// The next query, or at length n the list, from two servers' shares for a query: a prefix is kept when its total is at least t.
+///
+/// It is [`Settings::combine`] with the usual settings.
 ///
 /// ```
 /// use tally::{combine, Answer, Refusal, FIRST_QUERY};
@@ -29,17 +31,7 @@ pub fn combine(
     share0: &[u8],
     share1: &[u8],
 ) -> Result<Answer, Refusal> {
-    let mut bytes = vec![0; answer_space(n, query)];
-    let answer = combine_into(n, t, query, share0, share1, &mut bytes)?;
-    let mut cut = |length| {
-        bytes.truncate(length);
-        std::mem::take(&mut bytes)
-    };
-    Ok(match answer {
-        Answer::Next(length) => Answer::Next(cut(length)),
-        Answer::List(length) => Answer::List(cut(length)),
-        Answer::Ended => Answer::Ended,
-    })
+    usual(n, t).combine(query, share0, share1)
 }
 
 /// Writes the next query, or at length n the list, into `out`, and returns how many bytes that is; [`answer_space`] bytes are enough.
@@ -70,12 +62,70 @@ pub fn combine_into(
     share1: &[u8],
     out: &mut [u8],
 ) -> Result<Answer<usize>, Refusal> {
-    let reply = tally_sys::combine(n, t, query, share0, share1, out);
-    let length = accepted(reply.number, reply.length, out.len())?;
-    match reply.kind {
-        1 => Ok(Answer::Next(length)),
-        2 => Ok(Answer::List(length)),
-        3 => Ok(Answer::Ended),
-        _ => Err(Refusal::Unknown(reply.number)),
+    usual(n, t).combine_into(query, share0, share1, out)
+}
+
+/// The usual settings; combining does not ask for the expander.
+fn usual(n: u64, t: u64) -> Settings {
+    Settings::new(n, t, Expander::Aes)
+}
+
+impl Settings {
+    /// The next query, or at length n the list, from two servers' shares for a query: a prefix is kept when its total is at least t, in a weighted
+    /// search when its total read by [`signed_total`](crate::signed_total) is.
+    ///
+    /// ```
+    /// use tally::{Answer, Expander, Refusal, Settings, FIRST_QUERY, GROUP_ORDER};
+    ///
+    /// // The totals are 3 for `0` and −1 for `1`.
+    /// let share0 = [3u64.to_le_bytes(), (GROUP_ORDER - 1).to_le_bytes()].concat();
+    /// let weighted = Settings::new(1, 2, Expander::Aes).weighted();
+    /// assert_eq!(weighted.combine(&FIRST_QUERY, &share0, &[0; 16])?, Answer::List(vec![0x00]));
+    /// # Ok::<(), Refusal>(())
+    /// ```
+    ///
+    /// # Errors
+    ///
+    /// * 1, [`Refusal::StringLength`];
+    /// * 2, [`Refusal::Threshold`], or in a weighted search 12, [`Refusal::WeightedThreshold`];
+    /// * 4, [`Refusal::InputLength`]: a share has not 8 bytes for each prefix of the query;
+    /// * 6, [`Refusal::GroupNumber`];
+    /// * 9, [`Refusal::Query`];
+    /// * 11, [`Refusal::Space`]: a next query would pass 131,070 prefixes.
+    pub fn combine(&self, query: &[u8], share0: &[u8], share1: &[u8]) -> Result<Answer, Refusal> {
+        let mut bytes = vec![0; answer_space(self.n, query)];
+        let answer = self.combine_into(query, share0, share1, &mut bytes)?;
+        let mut cut = |length| {
+            bytes.truncate(length);
+            std::mem::take(&mut bytes)
+        };
+        Ok(match answer {
+            Answer::Next(length) => Answer::Next(cut(length)),
+            Answer::List(length) => Answer::List(cut(length)),
+            Answer::Ended => Answer::Ended,
+        })
+    }
+
+    /// Writes the next query, or at length n the list, into `out`, and returns how many bytes that is; [`answer_space`] bytes are enough.
+    ///
+    /// # Errors
+    ///
+    /// Those of [`Settings::combine`]; 11, [`Refusal::Space`], also where `out` has too few bytes.
+    pub fn combine_into(
+        &self,
+        query: &[u8],
+        share0: &[u8],
+        share1: &[u8],
+        out: &mut [u8],
+    ) -> Result<Answer<usize>, Refusal> {
+        let (n, weighted, t) = (self.n, self.weighted, self.threshold);
+        let reply = tally_sys::combine(n, weighted, t, query, share0, share1, out);
+        let length = accepted(reply.number, reply.length, out.len())?;
+        match reply.kind {
+            1 => Ok(Answer::Next(length)),
+            2 => Ok(Answer::List(length)),
+            3 => Ok(Answer::Ended),
+            _ => Err(Refusal::Unknown(reply.number)),
+        }
     }
 }

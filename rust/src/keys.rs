@@ -47,7 +47,7 @@ pub fn block_into(
     accepted(reply.number, reply.length, out.len())
 }
 
-/// The public share of a packed string of n bits, under the root seeds of server 0 and server 1.
+/// The public share of a packed string of n bits, under the root seeds of server 0 and server 1: the report counts as one.
 ///
 /// ```
 /// use tally::{make_key, public_share_length, Expander, Refusal};
@@ -69,9 +69,7 @@ pub fn make_key(
     seed0: &Seed,
     seed1: &Seed,
 ) -> Result<Vec<u8>, Refusal> {
-    written(public_share_length(n), |out| {
-        make_key_into(n, expander, string, seed0, seed1, out)
-    })
+    make_weighted_key(n, expander, 1, string, seed0, seed1)
 }
 
 /// Writes the public share of a packed string of n bits into [`public_share_length`] bytes of `out`, and returns how many that is.
@@ -98,6 +96,68 @@ pub fn make_key_into(
     seed1: &Seed,
     out: &mut [u8],
 ) -> Result<usize, Refusal> {
-    let reply = tally_sys::key(n, expander.number(), string, seed0, seed1, out);
+    make_weighted_key_into(n, expander, 1, string, seed0, seed1, out)
+}
+
+/// The public share of a packed string of n bits with a weight, under the root seeds of server 0 and server 1: in a weighted search the report
+/// adds its weight to the total of each prefix of its string. Every `i16` is a weight.
+///
+/// ```
+/// use tally::{make_weighted_key, share, signed_total, totals, Expander, Refusal, Reports, Server, FIRST_QUERY};
+///
+/// let public_share = make_weighted_key(1, Expander::Aes, -5, &[0x80], &[1; 16], &[2; 16])?;
+/// let zero = Reports { seeds: &[[1; 16]], public_shares: &public_share };
+/// let one = Reports { seeds: &[[2; 16]], public_shares: &public_share };
+/// let share0 = share(1, Expander::Aes, Server::Zero, zero, &FIRST_QUERY)?;
+/// let share1 = share(1, Expander::Aes, Server::One, one, &FIRST_QUERY)?;
+/// let signed: Vec<i64> = totals(&share0, &share1).into_iter().map(signed_total).collect();
+/// assert_eq!(signed, [0, -5]);
+/// # Ok::<(), Refusal>(())
+/// ```
+///
+/// # Errors
+///
+/// * 1, [`Refusal::StringLength`];
+/// * 4, [`Refusal::InputLength`]: the string has not [`packed_length`](crate::packed_length) bytes;
+/// * 7, [`Refusal::SpareBits`]: those of the string.
+pub fn make_weighted_key(
+    n: u64,
+    expander: Expander,
+    weight: i16,
+    string: &[u8],
+    seed0: &Seed,
+    seed1: &Seed,
+) -> Result<Vec<u8>, Refusal> {
+    written(public_share_length(n), |out| {
+        make_weighted_key_into(n, expander, weight, string, seed0, seed1, out)
+    })
+}
+
+/// Writes the public share of a packed string of n bits with a weight into [`public_share_length`] bytes of `out`, and returns how many that is.
+///
+/// ```
+/// use tally::{make_weighted_key_into, Expander, Refusal};
+///
+/// let mut out = [0; 25];
+/// assert_eq!(make_weighted_key_into(1, Expander::Aes, -5, &[0x80], &[1; 16], &[2; 16], &mut out)?, 25);
+/// # Ok::<(), Refusal>(())
+/// ```
+///
+/// # Errors
+///
+/// * 1, [`Refusal::StringLength`];
+/// * 4, [`Refusal::InputLength`]: the string has not [`packed_length`](crate::packed_length) bytes;
+/// * 7, [`Refusal::SpareBits`]: those of the string;
+/// * 11, [`Refusal::Space`]: `out` has fewer bytes.
+pub fn make_weighted_key_into(
+    n: u64,
+    expander: Expander,
+    weight: i16,
+    string: &[u8],
+    seed0: &Seed,
+    seed1: &Seed,
+    out: &mut [u8],
+) -> Result<usize, Refusal> {
+    let reply = tally_sys::key(n, expander.number(), weight, string, seed0, seed1, out);
     accepted(reply.number, reply.length, out.len())
 }

@@ -6,6 +6,9 @@
 //! [`Collector`] plays that loop, and names the prefix where totals do not add up. [`search`] does all of it where one program holds both
 //! servers' reports. [`exam`](exam()) does it for an exam text, and [`respond`] gives that text's whole output, refusals too.
 //!
+//! Where a report counts for more than one, or for less than nothing, [`make_weighted_key`] gives it a weight, and [`Settings`] have the same calls
+//! for a weighted search; [`signed_total`] reads its totals.
+//!
 //! Each call has two forms. One returns its bytes; the other, whose name ends in `_into`, writes into lent space and returns how many bytes it
 //! wrote; bytes past them are unchanged. [`public_share_length`], [`share_length`], [`answer_space`], [`record_space`],
 //! [`list_space`] and [`EXAM_SPACE`] say how much space to lend.
@@ -66,6 +69,7 @@
 
 mod bit_string;
 mod collector;
+mod collector_error;
 mod combining;
 mod exam;
 mod keys;
@@ -74,20 +78,25 @@ mod read;
 mod refusal;
 mod searching;
 mod serving;
+mod settings;
 mod space;
 mod values;
 mod views;
 
 pub use bit_string::BitString;
-pub use collector::{Collector, CollectorError};
+pub use collector::Collector;
+pub use collector_error::CollectorError;
 pub use combining::{combine, combine_into};
 pub use exam::{exam, exam_into, respond, respond_into, EXAM_SPACE};
-pub use keys::{block, block_into, make_key, make_key_into};
+pub use keys::{
+    block, block_into, make_key, make_key_into, make_weighted_key, make_weighted_key_into,
+};
 pub use public_share::{Correction, PublicShare};
-pub use read::{digits, levels, prefix_bits, prefixes, strings, totals, Level};
+pub use read::{digits, levels, prefix_bits, prefixes, signed_total, strings, totals, Level};
 pub use refusal::Refusal;
 pub use searching::{search, search_into};
 pub use serving::{add_shares, add_shares_into, share, share_into};
+pub use settings::Settings;
 pub use space::{
     answer_space, list_space, packed_length, public_share_length, query_length, record_space,
     share_length,
@@ -98,8 +107,11 @@ pub use views::{List, Query, Record, Round};
 /// The most bits in a string; the fewest is 1.
 pub const BITS_MOST: u64 = 256;
 
-/// The largest threshold; the least is 1.
+/// The largest threshold of a search that is not weighted; the least is 1.
 pub const THRESHOLD_MOST: u64 = 65_535;
+
+/// The largest threshold of a weighted search; the least is 1.
+pub const WEIGHTED_THRESHOLD_MOST: u64 = 2_147_483_647;
 
 /// The most reports; there may be none.
 pub const REPORTS_MOST: usize = 65_535;

@@ -87,6 +87,22 @@ pub fn totals(share0: &[u8], share1: &[u8]) -> Vec<u64> {
     sums.map(|total| total as u64).collect()
 }
 
+/// A total as a weighted search reads it: up to (p − 1) ÷ 2 as itself, a larger one as itself minus p, also p and above, which are no totals.
+///
+/// ```
+/// use tally::{signed_total, GROUP_ORDER};
+///
+/// assert_eq!((signed_total(5), signed_total(GROUP_ORDER - 5)), (5, -5));
+/// ```
+pub fn signed_total(total: u64) -> i64 {
+    if total <= (GROUP_ORDER - 1) / 2 {
+        total as i64
+    } else {
+        // The difference, between −(p − 1) ÷ 2 and 2^32 − 2, is what is left of 64 bits, read as an `i64`.
+        total.wrapping_sub(GROUP_ORDER) as i64
+    }
+}
+
 /// One level of a record: a query, and the total of each of its prefixes.
 #[derive(Clone, Copy, Debug, PartialEq, Eq)]
 pub struct Level<'a> {
@@ -112,6 +128,11 @@ impl<'a> Level<'a> {
     /// ```
     pub fn counted(&self) -> impl Iterator<Item = (&'a [u8], u64)> {
         prefixes(self.query).zip(numbers(self.totals))
+    }
+
+    /// Each prefix, packed, with its total as a weighted search reads it.
+    pub fn weighed(&self) -> impl Iterator<Item = (&'a [u8], i64)> {
+        prefixes(self.query).zip(numbers(self.totals).map(signed_total))
     }
 }
 

@@ -3,7 +3,7 @@
 use std::error::Error;
 use std::fmt;
 
-/// Why a call was refused: the first of the causes that applies, in the order of their numbers, but 10 before any other.
+/// Why a call was refused: the first of the causes that applies, in the order of their numbers, but 10 before any other, and 12 in the place of 2.
 ///
 /// A refused call leaves every lent byte as it was, except that [`search_into`](crate::search_into) makes the record area zero when it
 /// refuses with [`Refusal::Space`].
@@ -21,7 +21,7 @@ use std::fmt;
 pub enum Refusal {
     /// 1: the string length n is not from 1 to 256.
     StringLength,
-    /// 2: the threshold t is not from 1 to 65,535.
+    /// 2: the threshold t is not from 1 to 65,535, in a search that is not weighted.
     Threshold,
     /// 3: the expander is not 1 or 2; only [`Expander::try_from`](crate::Expander) and [`exam`](crate::exam()) meet it, since the other calls
     /// take an `Expander`.
@@ -43,6 +43,8 @@ pub enum Refusal {
     ExamText,
     /// 11: what is to be written would not fit the lent space, or a next query would pass 131,070 prefixes.
     Space,
+    /// 12: the threshold t of a weighted search is not from 1 to 2,147,483,647.
+    WeightedThreshold,
     /// The library answered what its contract rules out, with this number: it never comes from the proved library, only from another one
     /// linked under its name. What was written is then unknown, and the call returns this instead of any answer.
     Unknown(u64),
@@ -67,6 +69,7 @@ impl Refusal {
             Refusal::Query => 9,
             Refusal::ExamText => 10,
             Refusal::Space => 11,
+            Refusal::WeightedThreshold => 12,
             Refusal::Unknown(number) => number,
         }
     }
@@ -85,6 +88,7 @@ impl Refusal {
             9 => Refusal::Query,
             10 => Refusal::ExamText,
             11 => Refusal::Space,
+            12 => Refusal::WeightedThreshold,
             other => Refusal::Unknown(other),
         }
     }
@@ -110,6 +114,9 @@ impl fmt::Display for Refusal {
             Refusal::Space => {
                 "what is to be written would not fit the lent space, or a next query would pass 131,070 prefixes"
             }
+            Refusal::WeightedThreshold => {
+                "the threshold t of a weighted search is not from 1 to 2,147,483,647"
+            }
             Refusal::Unknown(number) => {
                 return write!(f, "the linked library answered what its contract rules out, with number {number}")
             }
@@ -128,7 +135,7 @@ mod tests {
         for number in 1..=20 {
             let refusal = Refusal::numbered(number);
             assert_eq!(refusal.number(), number);
-            let known = number <= 11;
+            let known = number <= 12;
             assert_eq!(matches!(refusal, Refusal::Unknown(_)), !known);
         }
     }

@@ -1,7 +1,7 @@
 //! Lengths in bytes, and space that is enough for a call.
 
 use crate::read::laid_out;
-use crate::{BITS_MOST, PREFIXES_MOST};
+use crate::{Expander, Settings, BITS_MOST, PREFIXES_MOST};
 
 /// How many bytes a packed string or prefix of that many bits takes.
 ///
@@ -103,7 +103,7 @@ pub fn answer_space(n: u64, query: &[u8]) -> usize {
 /// assert_eq!(tally::record_space(256, 1, 65_535), 803_460_126);
 /// ```
 pub fn record_space(n: u64, t: u64, reports: usize) -> usize {
-    tally_sys::record_space(n, t, reports as u64) as usize
+    Settings::new(n, t, Expander::Aes).record_space(reports)
 }
 
 /// Space that is enough for the list of a search over honest reports, as the proved library counts it: ⌊reports ÷ t⌋ packed strings, not cut to
@@ -119,5 +119,35 @@ pub fn record_space(n: u64, t: u64, reports: usize) -> usize {
 /// assert_eq!(tally::list_space(256, 1, 65_535), 2_097_120);
 /// ```
 pub fn list_space(n: u64, t: u64, reports: usize) -> usize {
-    tally_sys::list_space(n, t, reports as u64) as usize
+    Settings::new(n, t, Expander::Aes).list_space(reports)
+}
+
+impl Settings {
+    /// Space that is enough for the record of a search over honest reports, as [`record_space`] says; in a weighted search at most
+    /// ⌊reports ÷ ⌈t ÷ 32,767⌉⌋ prefixes of one length are kept, since a weight is at most 32,767, and t may be as large as 2,147,483,647.
+    ///
+    /// ```
+    /// use tally::{Expander, Settings};
+    ///
+    /// let settings = Settings::new(3, 1_000, Expander::Aes);
+    /// assert_eq!(settings.record_space(6), 24);
+    /// assert_eq!(settings.weighted().record_space(6), 24 + 42 + 78);
+    /// ```
+    pub fn record_space(&self, reports: usize) -> usize {
+        tally_sys::record_space(self.n, self.weighted, self.threshold, reports as u64) as usize
+    }
+
+    /// Space that is enough for the list of a search over honest reports, as [`list_space`] says; in a weighted search that of
+    /// ⌊reports ÷ ⌈t ÷ 32,767⌉⌋ packed strings.
+    ///
+    /// ```
+    /// use tally::{Expander, Settings};
+    ///
+    /// let settings = Settings::new(3, 1_000, Expander::Aes);
+    /// assert_eq!(settings.list_space(6), 0);
+    /// assert_eq!(settings.weighted().list_space(6), 6);
+    /// ```
+    pub fn list_space(&self, reports: usize) -> usize {
+        tally_sys::list_space(self.n, self.weighted, self.threshold, reports as u64) as usize
+    }
 }

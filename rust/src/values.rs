@@ -129,6 +129,6 @@ pub enum Answer<B = Vec<u8>> {
 pub struct Found<B = Vec<u8>> {
     /// The record: each query followed by its totals; [`levels`](crate::levels) and [`Record`](crate::Record) read it.
     pub record: B,
-    /// The list: the strings that at least t reports hold; [`strings`](crate::strings) and [`List`](crate::List) read it.
+    /// The list: the strings that at least t reports hold, or in a weighted search those that [`Settings::search`](crate::Settings::search) names; [`strings`](crate::strings) and [`List`](crate::List) read it.
     pub list: B,
 }

@@ -1,7 +1,7 @@
 //! Queries, records and lists as checked views of bytes.
 
 use crate::read::{laid_out, levels, numbers};
-use crate::{packed_length, BitString, Refusal, BITS_MOST, GROUP_ORDER};
+use crate::{packed_length, signed_total, BitString, Refusal, BITS_MOST, GROUP_ORDER};
 
 /// Whether packed strings of that many bits, one after the other, have no spare bits set and are strictly ascending.
 fn ascending(bits: u64, packed: &[u8]) -> bool {
@@ -106,6 +106,11 @@ impl<'a> Round<'a> {
     /// Each prefix with its total.
     pub fn counted(&self) -> impl Iterator<Item = (BitString, u64)> + 'a {
         self.query.prefixes().zip(self.totals())
+    }
+
+    /// Each prefix with its total as a weighted search reads it.
+    pub fn weighed(&self) -> impl Iterator<Item = (BitString, i64)> + 'a {
+        self.query.prefixes().zip(self.totals().map(signed_total))
     }
 }
 

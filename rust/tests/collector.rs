@@ -129,7 +129,7 @@ fn change(share: &mut [u8], place: usize, by: u64) {
 }
 
 /// That totals add to another number than is expected of them: the first ones, or those of a prefix's children.
-fn unequal(prefix: &str, expected: u64, found: u128) -> CollectorError {
+fn unequal(prefix: &str, expected: i128, found: i128) -> CollectorError {
     match bits(prefix) {
         first if first.length() == 0 => CollectorError::FirstTotals { expected, found },
         prefix => CollectorError::Children {
@@ -228,7 +228,7 @@ fn a_report_counted_twice_is_named() {
             held.play(&mut collector, rounds);
             let shares = twice(i, collector.query().unwrap());
             let error = held.refused(&mut collector, 2, &shares);
-            assert_eq!(error, unequal(parent, total, u128::from(total) + 1));
+            assert_eq!(error, unequal(parent, total, total + 1));
         }
     }
 }
@@ -250,7 +250,7 @@ fn a_changed_share_is_named() {
                 let mut shares = held.all(collector.query().unwrap());
                 change(&mut shares[server], place, 3);
                 let error = held.refused(&mut collector, 2, &shares);
-                assert_eq!(error, unequal(parent, total, u128::from(total) + 3));
+                assert_eq!(error, unequal(parent, total, total + 3));
             }
         }
     }
@@ -265,7 +265,7 @@ fn sums_are_those_of_whole_numbers() {
     change(&mut shares[0], 0, 2);
     change(&mut shares[0], 1, GROUP_ORDER - 2);
     let error = held.refused(&mut collector, 2, &shares);
-    assert_eq!(error, unequal("", 5, u128::from(GROUP_ORDER) + 5));
+    assert_eq!(error, unequal("", 5, i128::from(GROUP_ORDER) + 5));
 }
 
 #[test]

@@ -33,6 +33,7 @@ fn parts(list: &str, mark: char, read: impl Fn(&str) -> String) -> Vec<String> {
 fn c_type(name: &str) -> String {
     let known = match name {
         "uint64_t" => "u64",
+        "int16_t" => "i16",
         "size_t" => "usize",
         "bool" => "bool",
         "uint8_t *" => "*mut u8",

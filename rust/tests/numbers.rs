@@ -14,7 +14,7 @@ fn an_unknown_expander_is_refused_with_3_and_writes_nothing() {
     for expander in [0, 3, u64::MAX] {
         assert_eq!(block(expander, &[0; 16], 0, &mut space), refused);
         assert_eq!(
-            key(1, expander, &[0x80], &[0; 16], &[0; 16], &mut space),
+            key(1, expander, 1, &[0x80], &[0; 16], &[0; 16], &mut space),
             refused
         );
         assert_eq!(
@@ -22,7 +22,18 @@ fn an_unknown_expander_is_refused_with_3_and_writes_nothing() {
             refused
         );
         let mut list = [7; 8];
-        let reply = search(1, 1, expander, &[], &[], &[], &[], &mut space, &mut list);
+        let reply = search(
+            1,
+            false,
+            1,
+            expander,
+            &[],
+            &[],
+            &[],
+            &[],
+            &mut space,
+            &mut list,
+        );
         assert_eq!(
             (reply.number, reply.record_length, reply.list_length),
             (3, 0, 0)
@@ -40,7 +51,7 @@ fn seeds_of_another_length_are_refused_with_4() {
     };
     assert_eq!(block(2, &[0; 15], 0, &mut [0; 16]), refused);
     assert_eq!(
-        key(1, 2, &[0x80], &[0; 17], &[0; 16], &mut [0; 25]),
+        key(1, 2, 1, &[0x80], &[0; 17], &[0; 16], &mut [0; 25]),
         refused
     );
 }

@@ -1,4 +1,7 @@
-//! Brute-force counts on honest collections, without keys or shares.
+//! Brute-force counts and sums of weights on honest collections, without keys or shares.
+
+use crate::field::P;
+use crate::query::pack;
 
 /// How many strings begin with the prefix.
 pub fn holders(strings: &[Vec<bool>], prefix: &[bool]) -> u64 {
@@ -53,4 +56,70 @@ pub fn queried(strings: &[Vec<bool>], n: usize, t: u64) -> Vec<(Vec<bool>, u64)>
         parents = kept;
     }
     all
+}
+
+/// A string and the weight of its report.
+pub type Weighed = (Vec<bool>, i16);
+
+/// The whole signed number that the weights of the prefix's holders add to.
+pub fn weight_held(reports: &[Weighed], prefix: &[bool]) -> i64 {
+    let held = reports.iter().filter(|(s, _)| s.starts_with(prefix));
+    held.map(|&(_, weight)| i64::from(weight)).sum()
+}
+
+/// The weighted list: the strings all of whose non-empty prefixes' holders' weights add to t or
+/// more, ascending, each once.
+pub fn weighted_list(reports: &[Weighed], t: u64) -> Vec<Vec<bool>> {
+    // A string that nobody holds adds to 0, which is below every t.
+    let mut found: Vec<Vec<bool>> = reports.iter().map(|(string, _)| string.clone()).collect();
+    found.sort();
+    found.dedup();
+    found.retain(|string| in_weighted_list(reports, string, t));
+    found
+}
+
+/// Whether the holders' weights of each non-empty prefix of the string add to t or more.
+pub fn in_weighted_list(reports: &[Weighed], string: &[bool], t: u64) -> bool {
+    (1..=string.len()).all(|length| weight_held(reports, &string[..length]) >= t as i64)
+}
+
+/// Every prefix that a weighted search queries with its signed total, level by level, ascending.
+pub fn weighted_queried(reports: &[Weighed], n: usize, t: u64) -> Vec<(Vec<bool>, i64)> {
+    let mut all = vec![];
+    let mut asked = vec![vec![false], vec![true]];
+    for _ in 0..n {
+        let mut next = vec![];
+        for prefix in asked {
+            let total = weight_held(reports, &prefix);
+            if total >= t as i64 {
+                next.extend([false, true].map(|last| [&prefix[..], &[last]].concat()));
+            }
+            all.push((prefix, total));
+        }
+        asked = next;
+    }
+    all
+}
+
+/// The record of a weighted search: each query with its totals modulo p.
+pub fn weighted_record(reports: &[Weighed], n: usize, t: u64) -> Vec<u8> {
+    let queried = weighted_queried(reports, n, t);
+    let mut record = vec![];
+    for level in queried.chunk_by(|(one, _), (next, _)| one.len() == next.len()) {
+        record.extend((level[0].0.len() as u16 - 1).to_be_bytes());
+        record.extend((level.len() as u32).to_be_bytes());
+        record.extend(level.iter().flat_map(|(prefix, _)| pack(prefix)));
+        for &(_, total) in level {
+            let number = i128::from(total).rem_euclid(i128::from(P));
+            record.extend((number as u64).to_le_bytes());
+        }
+    }
+    record
+}
+
+/// The record and the list of a weighted search, both packed.
+pub fn weighted_answer(reports: &[Weighed], n: usize, t: u64) -> (Vec<u8>, Vec<u8>) {
+    let list = weighted_list(reports, t);
+    let list = list.iter().flat_map(|string| pack(string)).collect();
+    (weighted_record(reports, n, t), list)
 }

@@ -49,10 +49,11 @@ fn block_judged(expander: u64, seed: &[u8], space: usize) -> u64 {
     0
 }
 
-/// Writes the public share of one report.
+/// Writes the public share of one report; its weight gives no cause.
 pub fn key(
     n: u64,
     expander: u64,
+    weight: i16,
     string: &[u8],
     seed0: &[u8],
     seed1: &[u8],
@@ -63,7 +64,7 @@ pub fn key(
     Reply::settle(number, public_share, || {
         let string = unpack(string, n as usize);
         let (seed0, seed1) = (seed_of(seed0), seed_of(seed1));
-        keys::public_share(Expander::of(expander), &string, seed0, seed1)
+        keys::public_share(Expander::of(expander), weight, &string, seed0, seed1)
     })
 }
 

@@ -10,9 +10,20 @@ pub enum Answer {
     Ended,
 }
 
+/// Whether a total reaches t, read signed in a weighted search.
+fn reaches(weighted: bool, t: u64, total: u64) -> bool {
+    if weighted {
+        field::signed(total) >= t as i64
+    } else {
+        total >= t
+    }
+}
+
 /// The answer to a query's totals.
-pub fn answer(n: usize, t: u64, query: &Query, totals: &[u64]) -> Answer {
-    let kept: Vec<usize> = (0..query.count).filter(|&i| totals[i] >= t).collect();
+pub fn answer(n: usize, weighted: bool, t: u64, query: &Query, totals: &[u64]) -> Answer {
+    let kept: Vec<usize> = (0..query.count)
+        .filter(|&i| reaches(weighted, t, totals[i]))
+        .collect();
     if query.length == n {
         let list = kept.iter().flat_map(|&i| query.prefix(i).to_vec());
         return Answer::List(list.collect());
@@ -40,13 +51,14 @@ pub fn totals(share0: &[u64], share1: &[u64]) -> Vec<u64> {
 /// Writes the next query or the list, or says that the search ended.
 pub fn combine(
     n: u64,
+    weighted: bool,
     t: u64,
     query: &[u8],
     share0: &[u8],
     share1: &[u8],
     out: &mut [u8],
 ) -> Combined {
-    let number = judge::combine(n, t, query, share0, share1, out.len());
+    let number = judge::combine(n, weighted, t, query, share0, share1, out.len());
     if number != 0 {
         return Combined {
             number,
@@ -57,7 +69,7 @@ pub fn combine(
     let share0: Vec<u64> = share0.chunks(8).map(field::read).collect();
     let share1: Vec<u64> = share1.chunks(8).map(field::read).collect();
     let totals = totals(&share0, &share1);
-    let (kind, bytes) = match answer(n as usize, t, &Query::of(query), &totals) {
+    let (kind, bytes) = match answer(n as usize, weighted, t, &Query::of(query), &totals) {
         Answer::Next(bytes) => (1, bytes),
         Answer::List(bytes) => (2, bytes),
         Answer::Ended => (3, Vec::new()),

@@ -65,7 +65,7 @@ pub fn exam_into(text: &[u8], out: &mut [u8]) -> Reply {
 fn judged(text: &Text) -> Result<String, u64> {
     let n = text.n as u64;
     // The bounds are those of the search, judged before any key is made.
-    let number = judge::search(n, text.t, text.expander, &[], &[], &[], &[], 0, 0);
+    let number = judge::search(n, false, text.t, text.expander, &[], &[], &[], &[], 0, 0);
     if number != 0 {
         return Err(number);
     }
@@ -78,6 +78,7 @@ fn judged(text: &Text) -> Result<String, u64> {
         let made = key(
             n,
             text.expander,
+            1,
             &string,
             &line.seed0,
             &line.seed1,
@@ -94,6 +95,7 @@ fn judged(text: &Text) -> Result<String, u64> {
     let mut list = vec![0u8; 1 << 10];
     let found = search(
         n,
+        false,
         text.t,
         text.expander,
         &seeds0,

@@ -1,12 +1,14 @@
-//! The number with which each of document 01's four calls refuses, or 0; so too for adding two
-//! shares of one server, which document 01 does not have.
+//! The number with which each of document 01's four calls refuses, or 0, with request [1] of
+//! document 02; so too for adding two shares of one server, which document 01 does not have.
 
 /// The group's modulus p.
 pub const P: u64 = 18_446_744_069_414_584_321;
 /// The greatest string length n in bits.
 pub const MOST_BITS: usize = 256;
-/// The greatest threshold t.
+/// The greatest threshold t of an unweighted search.
 pub const MOST_THRESHOLD: u64 = 65_535;
+/// The greatest threshold t of a weighted search.
+pub const MOST_WEIGHTED_THRESHOLD: u64 = 2_147_483_647;
 /// The greatest number of reports C.
 pub const MOST_REPORTS: usize = 65_535;
 /// The greatest number of prefixes in one query.
@@ -69,9 +71,14 @@ fn string_bits(n: u64) -> Option<usize> {
         .filter(|bits| (1..=MOST_BITS).contains(bits))
 }
 
-/// Whether the threshold is within its bounds (cause 2's opposite).
-fn threshold_in_bounds(t: u64) -> bool {
-    (1..=MOST_THRESHOLD).contains(&t)
+/// The cause of a threshold outside its bounds: 2, and 12 in its place in a weighted search.
+fn threshold_cause(weighted: bool, t: u64) -> Option<u64> {
+    let (most, cause) = if weighted {
+        (MOST_WEIGHTED_THRESHOLD, 12)
+    } else {
+        (MOST_THRESHOLD, 2)
+    };
+    (t == 0 || t > most).then_some(cause)
 }
 
 /// Whether the expander is 1 or 2 (cause 3's opposite).
@@ -169,11 +176,17 @@ fn total(one: u64, other: u64) -> u128 {
     (u128::from(one) + u128::from(other)) % u128::from(P)
 }
 
+/// Whether a total reaches t; in a weighted search those of the upper half are negative.
+fn kept(weighted: bool, t: u64, total: u128) -> bool {
+    let lower_half = 2 * total < u128::from(P);
+    total >= u128::from(t) && (lower_half || !weighted)
+}
+
 /// How many prefixes are kept at threshold t, given both servers' shares.
-fn kept_count(t: u64, share0: &[u8], share1: &[u8]) -> usize {
+fn kept_count(weighted: bool, t: u64, share0: &[u8], share1: &[u8]) -> usize {
     numbers(share0)
         .zip(numbers(share1))
-        .filter(|(one, other)| total(*one, *other) >= u128::from(t))
+        .filter(|(one, other)| kept(weighted, t, total(*one, *other)))
         .count()
 }
 
@@ -262,12 +275,20 @@ pub fn share(
 
 /// The number with which combining refuses, or 0.
 #[must_use]
-pub fn combine(n: u64, t: u64, query: &[u8], share0: &[u8], share1: &[u8], space: usize) -> u64 {
+pub fn combine(
+    n: u64,
+    weighted: bool,
+    t: u64,
+    query: &[u8],
+    share0: &[u8],
+    share1: &[u8],
+    space: usize,
+) -> u64 {
     let Some(bits) = string_bits(n) else {
         return 1;
     };
-    if !threshold_in_bounds(t) {
-        return 2;
+    if let Some(cause) = threshold_cause(weighted, t) {
+        return cause;
     }
     let Some(lent) = whole_count(share0, NUMBER_BYTES).filter(|_| share0.len() == share1.len())
     else {
@@ -283,7 +304,7 @@ pub fn combine(n: u64, t: u64, query: &[u8], share0: &[u8], share1: &[u8], space
     let Some((prefix_length, _)) = shape else {
         return 9;
     };
-    let kept = kept_count(t, share0, share1);
+    let kept = kept_count(weighted, t, share0, share1);
     let written = if prefix_length == bits {
         list_bytes(bits, kept)
     } else if kept == 0 {
@@ -320,6 +341,7 @@ pub fn add(share0: &[u8], share1: &[u8], space: usize) -> u64 {
 #[must_use]
 pub fn search(
     n: u64,
+    weighted: bool,
     t: u64,
     expander: u64,
     seeds0: &[u8],
@@ -332,8 +354,8 @@ pub fn search(
     let Some(bits) = string_bits(n) else {
         return 1;
     };
-    if !threshold_in_bounds(t) {
-        return 2;
+    if let Some(cause) = threshold_cause(weighted, t) {
+        return cause;
     }
     if !expander_known(expander) {
         return 3;

@@ -46,6 +46,7 @@ fn judged(text: &Text) -> Result<String, u64> {
     let made = key(
         text.n as u64,
         text.expander,
+        1,
         &pack(string),
         seed0,
         seed1,

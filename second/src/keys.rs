@@ -88,10 +88,11 @@ fn correct(expander: Expander, nodes: [Node; 2], bit: bool) -> Correction {
     }
 }
 
-/// The payload correction at two corrected nodes.
-fn correct_payload(expander: Expander, nodes: [Node; 2]) -> u64 {
+/// The payload correction at two corrected nodes, for a weight.
+fn correct_payload(expander: Expander, nodes: [Node; 2], weight: i16) -> u64 {
     let [w0, w1] = nodes.map(|node| node.payload(expander));
-    let payload = field::add(field::add(1, field::negate(w0)), w1);
+    let weight = field::of_weight(weight);
+    let payload = field::add(field::add(weight, field::negate(w0)), w1);
     if nodes[1].control {
         field::negate(payload)
     } else {
@@ -99,8 +100,14 @@ fn correct_payload(expander: Expander, nodes: [Node; 2]) -> u64 {
     }
 }
 
-/// The public share of a report for a string and two root seeds.
-pub fn public_share(expander: Expander, string: &[bool], seed0: Seed, seed1: Seed) -> Vec<u8> {
+/// The public share of a report for a weight, a string and two root seeds.
+pub fn public_share(
+    expander: Expander,
+    weight: i16,
+    string: &[bool],
+    seed0: Seed,
+    seed1: Seed,
+) -> Vec<u8> {
     let mut share = Vec::with_capacity(public_share_size(string.len()));
     share.resize(head_size(string.len()), 0);
     let mut nodes = [Node::root(false, seed0), Node::root(true, seed1)];
@@ -110,7 +117,7 @@ pub fn public_share(expander: Expander, string: &[bool], seed0: Seed, seed1: See
         let [left, right] = correction.controls.map(u8::from);
         share[level / 4] |= (left | right << 1) << (2 * (level % 4));
         share.extend(correction.seed);
-        share.extend(field::write(correct_payload(expander, nodes)));
+        share.extend(field::write(correct_payload(expander, nodes, weight)));
         nodes = nodes.map(|node| node.finished(expander));
     }
     share
@@ -165,7 +172,7 @@ mod tests {
     fn sheet_a() {
         let mut seed1 = [0; 16];
         seed1[0] = 1;
-        let share = public_share(Expander::Classroom, &[true], [0; 16], seed1);
+        let share = public_share(Expander::Classroom, 1, &[true], [0; 16], seed1);
         let mut expected = vec![0; 25];
         (expected[0], expected[1], expected[9], expected[17]) = (1, 2, 3, 1);
         assert_eq!(share, expected);
@@ -182,11 +189,33 @@ mod tests {
     }
 
     #[test]
+    fn sheet_a_with_weights() {
+        let mut seed1 = [0; 16];
+        seed1[0] = 1;
+        // In A the payloads are 6 and 4 and the new t1 is 1: the correction is 2 less the weight.
+        for (weight, payload) in [
+            (-32_768, 32_770),
+            (-1, 3),
+            (0, 2),
+            (1, 1),
+            (2, 0),
+            (3, field::P - 1),
+            (32_767, field::P - 32_765),
+        ] {
+            let share = public_share(Expander::Classroom, weight, &[true], [0; 16], seed1);
+            let plain = public_share(Expander::Classroom, 1, &[true], [0; 16], seed1);
+            assert_eq!(share[..17], plain[..17]);
+            assert_eq!(field::read(&share[17..]), payload);
+        }
+    }
+
+    #[test]
     fn shares_have_their_size_and_no_spare_bits() {
         let mut chance = Chance(5);
         for n in 1..=256 {
             let string = chance.string(n);
-            let share = public_share(Expander::Classroom, &string, chance.seed(), chance.seed());
+            let (weight, seed0, seed1) = (chance.number() as i16, chance.seed(), chance.seed());
+            let share = public_share(Expander::Classroom, weight, &string, seed0, seed1);
             assert_eq!(share.len(), public_share_size(n));
             assert!((2 * n..8 * head_size(n)).all(|i| share[i / 8] >> (i % 8) & 1 == 0));
             let levels = share[head_size(n)..].chunks_exact(LEVEL);

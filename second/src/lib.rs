@@ -1,4 +1,5 @@
-//! The second program: document 01 written again, plainly, by another hand.
+//! The second program: document 01, and request [1] of document 02, written again, plainly, by
+//! another hand.
 
 #![forbid(unsafe_code)]
 

@@ -10,6 +10,7 @@ use crate::{field, judge, Found};
 #[allow(clippy::too_many_arguments)]
 pub fn search(
     n: u64,
+    weighted: bool,
     t: u64,
     expander: u64,
     seeds0: &[u8],
@@ -26,6 +27,7 @@ pub fn search(
     };
     let number = judge::search(
         n,
+        weighted,
         t,
         expander,
         seeds0,
@@ -52,7 +54,9 @@ pub fn search(
         let share1 = reports1.sums(expander, true, query);
         totals(&share0, &share1)
     };
-    let Some((made_record, made_list)) = run(n, t, totals_of, record.len(), list.len()) else {
+    let answer_to = |query: &Query, totals: &[u64]| answer(n, weighted, t, query, totals);
+    let Some((made_record, made_list)) = run(n, answer_to, totals_of, record.len(), list.len())
+    else {
         record.fill(0);
         return refused(11);
     };
@@ -68,10 +72,11 @@ pub fn search(
 /// Record and list.
 type Outcome = (Vec<u8>, Vec<u8>);
 
-/// The search with the totals of each query, where the judge finds that everything fits.
+/// The search with the totals of each query and the answer to them, where the judge finds that
+/// everything fits.
 fn run(
     n: usize,
-    t: u64,
+    answer_to: impl Fn(&Query, &[u64]) -> Answer,
     totals_of: impl Fn(&Query) -> Vec<u64>,
     record_space: usize,
     list_space: usize,
@@ -88,7 +93,7 @@ fn run(
         let totals = totals_of(&query);
         record.extend_from_slice(&asked);
         record.extend(totals.iter().flat_map(|&total| field::write(total)));
-        let list = match answer(n, t, &query, &totals) {
+        let list = match answer_to(&query, &totals) {
             Answer::Next(next) => {
                 asked = next;
                 continue;

@@ -119,7 +119,7 @@ mod tests {
         for string in strings {
             let seed0 = chance.seed();
             let seed1 = if same { seed0 } else { chance.seed() };
-            shares.extend(public_share(e, string, seed0, seed1));
+            shares.extend(public_share(e, 1, string, seed0, seed1));
             seeds0.extend(seed0);
             seeds1.extend(seed1);
         }
@@ -133,13 +133,13 @@ mod tests {
     fn sheet_b_c_and_h() {
         let (e, zero, mut one) = (Expander::Classroom, [0; 16], [0; 16]);
         one[0] = 1;
-        let mut share = public_share(e, &[true], zero, one);
+        let mut share = public_share(e, 1, &[true], zero, one);
         let shares = sums(e, 1, [&zero, &one], &share, &first());
         assert_eq!(shares, [[5, 6], [P - 5, P - 5]]);
         share[17..].copy_from_slice(&field::write(P - 1));
         let shares = sums(e, 1, [&zero, &one], &share, &first());
         assert_eq!(shares, [[3, 6], [P - 3, P - 3]]);
-        let share = public_share(e, &[true], zero, zero);
+        let share = public_share(e, 1, &[true], zero, zero);
         let [sums0, sums1] = sums(e, 1, [&zero, &zero], &share, &first());
         assert_eq!(field::add(sums0[0], sums1[0]), 0);
         assert_eq!(field::add(sums0[1], sums1[1]), 1);

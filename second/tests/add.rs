@@ -212,7 +212,7 @@ impl Honest {
                 _ => rng.bytes(16),
             };
             let mut space = vec![0; public_share_size(n)];
-            let made = key(n as u64, e, &pack(string), &seed0, &seed1, &mut space);
+            let made = key(n as u64, e, 1, &pack(string), &seed0, &seed1, &mut space);
             assert_eq!((made.number, made.length), (0, space.len() as u64));
             honest.public.extend(space);
             honest.seeds[0].extend(seed0);
@@ -280,7 +280,7 @@ fn strings(rng: &mut Rng, n: usize, count: usize) -> Vec<Vec<bool>> {
 /// What combining answers: its kind and what it writes.
 fn combined(n: usize, query: &[u8], shares: [&[u8]; 2]) -> (u64, Vec<u8>) {
     let mut out = vec![0; 4096];
-    let made = combine(n as u64, 2, query, shares[0], shares[1], &mut out);
+    let made = combine(n as u64, false, 2, query, shares[0], shares[1], &mut out);
     assert_eq!(made.number, 0);
     out.truncate(made.length as usize);
     (made.kind, out)

@@ -16,17 +16,17 @@ fn refused(number: u64) -> Reply {
 fn causes_of_key() {
     let mut space = vec![0xee; public_share_size(3) + 1];
     let fit = public_share_size(3);
-    assert_eq!(key(0, 3, &[], &[], &[], &mut []), refused(1));
-    assert_eq!(key(3, 3, &[], &[], &[], &mut []), refused(3));
-    assert_eq!(key(3, 1, &[1, 1], &SEED, &SEED, &mut []), refused(4));
-    assert_eq!(key(3, 1, &[], &SEED, &SEED, &mut []), refused(4));
-    assert_eq!(key(3, 1, &[1], &SEED[..15], &SEED, &mut []), refused(4));
-    assert_eq!(key(3, 1, &[1], &SEED, &[], &mut []), refused(4));
-    assert_eq!(key(3, 1, &[0x10], &SEED, &SEED, &mut []), refused(7));
-    let reply = key(3, 1, &[0x20], &SEED, &SEED, &mut space[..fit - 1]);
+    assert_eq!(key(0, 3, 1, &[], &[], &[], &mut []), refused(1));
+    assert_eq!(key(3, 3, 1, &[], &[], &[], &mut []), refused(3));
+    assert_eq!(key(3, 1, 1, &[1, 1], &SEED, &SEED, &mut []), refused(4));
+    assert_eq!(key(3, 1, 1, &[], &SEED, &SEED, &mut []), refused(4));
+    assert_eq!(key(3, 1, 1, &[1], &SEED[..15], &SEED, &mut []), refused(4));
+    assert_eq!(key(3, 1, 1, &[1], &SEED, &[], &mut []), refused(4));
+    assert_eq!(key(3, 1, 1, &[0x10], &SEED, &SEED, &mut []), refused(7));
+    let reply = key(3, 1, 1, &[0x20], &SEED, &SEED, &mut space[..fit - 1]);
     assert_eq!(reply, refused(11));
     assert!(space.iter().all(|&byte| byte == 0xee));
-    let reply = key(3, 1, &[0x20], &SEED, &SEED, &mut space);
+    let reply = key(3, 1, 1, &[0x20], &SEED, &SEED, &mut space);
     assert_eq!(
         (reply.number, reply.length, space[fit]),
         (0, fit as u64, 0xee)
@@ -36,7 +36,7 @@ fn causes_of_key() {
 #[test]
 fn causes_of_share() {
     let mut public = vec![0u8; public_share_size(3)];
-    assert_eq!(key(3, 2, &[0x20], &SEED, &SEED, &mut public).number, 0);
+    assert_eq!(key(3, 2, 1, &[0x20], &SEED, &SEED, &mut public).number, 0);
     let mut space = [0xee; 17];
     let mut call = |e, seeds: &[u8], public: &[u8], query: &[u8], room: usize| {
         let reply = share(3, e, true, seeds, public, query, &mut space[..room]);
@@ -74,7 +74,18 @@ fn too_many_reports() {
     assert_eq!(call(65_535, &first()), 0);
     assert_eq!(call(65_536, &first()), 5);
     assert_eq!(call(65_536, &[]), 5);
-    let found = search(1, 1, 2, &seeds, &public, &seeds, &public, &mut [], &mut []);
+    let found = search(
+        1,
+        false,
+        1,
+        2,
+        &seeds,
+        &public,
+        &seeds,
+        &public,
+        &mut [],
+        &mut [],
+    );
     assert_eq!(found.number, 5);
 }
 
@@ -88,29 +99,35 @@ fn causes_of_combine() {
     };
     let high = [0xff; 16];
     let bad = [9u8; 3];
-    assert_eq!(combine(0, 0, &bad, &[], &[1], &mut []), none(1));
-    assert_eq!(combine(2, 0, &bad, &[], &[1], &mut []), none(2));
-    assert_eq!(combine(2, 1, &bad, &[], &[1], &mut []), none(4));
-    assert_eq!(combine(2, 1, &bad, &[1], &[1], &mut []), none(4));
-    assert_eq!(combine(2, 1, &first(), &[], &[], &mut []), none(4));
+    assert_eq!(combine(0, false, 0, &bad, &[], &[1], &mut []), none(1));
+    assert_eq!(combine(2, false, 0, &bad, &[], &[1], &mut []), none(2));
+    assert_eq!(combine(2, false, 1, &bad, &[], &[1], &mut []), none(4));
+    assert_eq!(combine(2, false, 1, &bad, &[1], &[1], &mut []), none(4));
+    assert_eq!(combine(2, false, 1, &first(), &[], &[], &mut []), none(4));
     assert_eq!(
-        combine(2, 1, &first(), &high[..8], &high[..8], &mut []),
+        combine(2, false, 1, &first(), &high[..8], &high[..8], &mut []),
         none(4)
     );
     assert_eq!(
-        combine(2, 1, &bad, &high[..8], &high[..8], &mut []),
+        combine(2, false, 1, &bad, &high[..8], &high[..8], &mut []),
         none(6)
     );
-    assert_eq!(combine(2, 1, &bad, &[], &[], &mut []), none(9));
-    assert_eq!(combine(2, 1, &bad, &[0; 8], &[0; 8], &mut []), none(9));
+    assert_eq!(combine(2, false, 1, &bad, &[], &[], &mut []), none(9));
+    assert_eq!(
+        combine(2, false, 1, &bad, &[0; 8], &[0; 8], &mut []),
+        none(9)
+    );
     let mut kept = [0u8; 16];
     kept[0] = 2;
     kept[8] = 1;
     assert_eq!(
-        combine(2, 2, &first(), &kept, &[0; 16], &mut out[..7]),
+        combine(2, false, 2, &first(), &kept, &[0; 16], &mut out[..7]),
         none(11)
     );
-    assert_eq!(combine(1, 2, &first(), &kept, &[0; 16], &mut []), none(11));
+    assert_eq!(
+        combine(1, false, 2, &first(), &kept, &[0; 16], &mut []),
+        none(11)
+    );
     assert_eq!(out, [0xee; 16]);
     let answer = |kind, length| Combined {
         number: 0,
@@ -118,20 +135,20 @@ fn causes_of_combine() {
         length,
     };
     assert_eq!(
-        combine(2, 3, &first(), &kept, &[0; 16], &mut []),
+        combine(2, false, 3, &first(), &kept, &[0; 16], &mut []),
         answer(3, 0)
     );
     assert_eq!(
-        combine(1, 3, &first(), &kept, &[0; 16], &mut []),
+        combine(1, false, 3, &first(), &kept, &[0; 16], &mut []),
         answer(2, 0)
     );
     assert_eq!(
-        combine(1, 2, &first(), &kept, &[0; 16], &mut out),
+        combine(1, false, 2, &first(), &kept, &[0; 16], &mut out),
         answer(2, 1)
     );
     assert_eq!((out[0], out[1]), (0, 0xee));
     assert_eq!(
-        combine(2, 2, &first(), &kept, &[0; 16], &mut out),
+        combine(2, false, 2, &first(), &kept, &[0; 16], &mut out),
         answer(1, 8)
     );
     assert_eq!(out[..9], [0, 1, 0, 0, 0, 2, 0x00, 0x40, 0xee]);
@@ -146,9 +163,9 @@ fn next_query_at_its_limit() {
     for (count, wanted) in [(65_535, (0, 1, 393_216)), (65_536, (11, 0, 0))] {
         let query = write(16, &prefixes[..count]);
         let ones = [1u8, 0, 0, 0, 0, 0, 0, 0].repeat(count);
-        let made = combine(17, 1, &query, &ones, &vec![0; 8 * count], &mut out);
+        let made = combine(17, false, 1, &query, &ones, &vec![0; 8 * count], &mut out);
         assert_eq!((made.number, made.kind, made.length), wanted);
-        let made = combine(16, 1, &query, &ones, &vec![0; 8 * count], &mut out);
+        let made = combine(16, false, 1, &query, &ones, &vec![0; 8 * count], &mut out);
         assert_eq!((made.kind, made.length), (2, 2 * count as u64));
     }
 }
@@ -156,7 +173,10 @@ fn next_query_at_its_limit() {
 #[test]
 fn causes_of_search() {
     let mut public = vec![0u8; public_share_size(3)];
-    assert_eq!(key(3, 1, &[0x20], &SEED, &[4; 16], &mut public).number, 0);
+    assert_eq!(
+        key(3, 1, 1, &[0x20], &SEED, &[4; 16], &mut public).number,
+        0
+    );
     let mut spare = public.clone();
     spare[0] |= 0x80;
     let mut large = spare.clone();
@@ -167,7 +187,7 @@ fn causes_of_search() {
     let seeds = [3u8; 32];
     let call = |n, t, e, s0: &[u8], p0: &[u8], s1: &[u8], p1: &[u8]| {
         let (mut record, mut list) = ([0xee; 100], [0xee; 9]);
-        let found = search(n, t, e, s0, p0, s1, p1, &mut record, &mut list);
+        let found = search(n, false, t, e, s0, p0, s1, p1, &mut record, &mut list);
         let zero = found.number == 11;
         assert_eq!(record, [if zero { 0 } else { 0xee }; 100]);
         assert_eq!(list, [0xee; 9]);
@@ -184,7 +204,9 @@ fn causes_of_search() {
     assert_eq!(call(3, 1, 1, &SEED, &public, &SEED, &spare), 7);
     assert_eq!(call(3, 1, 1, &SEED, &public, &SEED, &other), 8);
     let into = |record: &mut [u8], list: &mut [u8]| {
-        search(3, 1, 1, &SEED, &public, &[4; 16], &public, record, list)
+        search(
+            3, false, 1, 1, &SEED, &public, &[4; 16], &public, record, list,
+        )
     };
     let mut record = [0xee; 200];
     let found = into(&mut record, &mut []);

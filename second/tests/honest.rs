@@ -18,7 +18,7 @@ fn searched(rng: &mut Rng, n: usize, t: u64, e: u64, strings: &[Vec<bool>]) -> (
             rng.bytes(16)
         };
         let mut space = vec![0u8; public_share_size(n)];
-        let made = key(n as u64, e, &pack(string), &s0, &s1, &mut space);
+        let made = key(n as u64, e, 1, &pack(string), &s0, &s1, &mut space);
         assert_eq!((made.number, made.length), (0, space.len() as u64));
         public.extend(space);
         seeds0.extend(s0);
@@ -28,6 +28,7 @@ fn searched(rng: &mut Rng, n: usize, t: u64, e: u64, strings: &[Vec<bool>]) -> (
     let mut list = vec![0u8; 1 << 12];
     let found = search(
         n as u64,
+        false,
         t,
         e,
         &seeds0,

@@ -39,7 +39,7 @@ fn public(control: u8, payload: u64) -> Vec<u8> {
 
 /// The search's number for both servers lent the same, with n 1, t 1 and expander 2.
 fn alike(seeds: &[u8], publics: &[u8]) -> u64 {
-    search(1, 1, 2, seeds, publics, seeds, publics, 0, 0)
+    search(1, false, 1, 2, seeds, publics, seeds, publics, 0, 0)
 }
 
 /// The sizes are the document's.
@@ -62,21 +62,21 @@ fn bounds() {
     for n in [0, 257, u64::MAX, 1 << 32, (1 << 32) + 1] {
         assert_eq!(key(n, 9, &[], &[], &[], 0), 1);
         assert_eq!(share(n, 9, false, &[1], &[], &[], 0), 1);
-        assert_eq!(combine(n, 0, &[], &[1], &[], 0), 1);
-        assert_eq!(search(n, 0, 9, &[1], &[], &[], &[], 0, 0), 1);
+        assert_eq!(combine(n, false, 0, &[], &[1], &[], 0), 1);
+        assert_eq!(search(n, false, 0, 9, &[1], &[], &[], &[], 0, 0), 1);
     }
     assert_eq!(key(256, 2, &[255; 32], &SEED, &SEED, 6208), 0);
     assert_eq!(key(256, 2, &[255; 32], &SEED, &SEED, 6207), 11);
     for t in [0, 65_536, u64::MAX] {
-        assert_eq!(combine(1, t, &[], &[1], &[], 0), 2);
-        assert_eq!(search(1, t, 9, &[1], &[], &[], &[], 0, 0), 2);
+        assert_eq!(combine(1, false, t, &[], &[1], &[], 0), 2);
+        assert_eq!(search(1, false, t, 9, &[1], &[], &[], &[], 0, 0), 2);
     }
-    assert_eq!(combine(1, 65_535, &FIRST, &s, &s, 0), 0);
-    assert_eq!(search(256, 65_535, 1, &[], &[], &[], &[], 0, 0), 0);
+    assert_eq!(combine(1, false, 65_535, &FIRST, &s, &s, 0), 0);
+    assert_eq!(search(256, false, 65_535, 1, &[], &[], &[], &[], 0, 0), 0);
     for e in [0, 3, u64::MAX] {
         assert_eq!(key(1, e, &[], &[], &[], 0), 3);
         assert_eq!(share(1, e, true, &[1], &[], &[], 0), 3);
-        assert_eq!(search(1, 1, e, &[1], &[], &[], &[], 0, 0), 3);
+        assert_eq!(search(1, false, 1, e, &[1], &[], &[], &[], 0, 0), 3);
     }
 }
 
@@ -210,21 +210,30 @@ fn small_queries() {
 fn combine_pairs() {
     let two = shared(&[0, 0]);
     let bad = shared(&[0, P]);
-    assert_eq!(combine(2, 1, &FIRST, &two, &two, 0), 0);
-    assert_eq!(combine(2, 1, &FIRST, &two, &bad, 0), 6);
-    assert_eq!(combine(2, 1, &FIRST, &bad, &two, 0), 6);
-    assert_eq!(combine(2, 1, &FIRST, &two, &two[8..], 0), 4);
-    assert_eq!(combine(2, 1, &FIRST, &bad[1..], &bad[1..], 0), 4);
-    assert_eq!(combine(2, 1, &FIRST, &bad[8..], &bad[8..], 0), 4);
-    assert_eq!(combine(2, 1, &FIRST, &[], &[], 0), 4);
-    assert_eq!(combine(2, 1, &[], &[], &[], 0), 9);
-    assert_eq!(combine(2, 1, &FIRST[1..], &two[8..], &two[8..], 0), 9);
-    assert_eq!(combine(2, 1, &FIRST[1..], &bad[8..], &two[8..], 0), 6);
-    assert_eq!(combine(2, 1, &FIRST[1..], &two[8..], &two, 0), 4);
-    assert_eq!(combine(2, 1, &FIRST[1..], &two[1..], &two[1..], 0), 4);
+    assert_eq!(combine(2, false, 1, &FIRST, &two, &two, 0), 0);
+    assert_eq!(combine(2, false, 1, &FIRST, &two, &bad, 0), 6);
+    assert_eq!(combine(2, false, 1, &FIRST, &bad, &two, 0), 6);
+    assert_eq!(combine(2, false, 1, &FIRST, &two, &two[8..], 0), 4);
+    assert_eq!(combine(2, false, 1, &FIRST, &bad[1..], &bad[1..], 0), 4);
+    assert_eq!(combine(2, false, 1, &FIRST, &bad[8..], &bad[8..], 0), 4);
+    assert_eq!(combine(2, false, 1, &FIRST, &[], &[], 0), 4);
+    assert_eq!(combine(2, false, 1, &[], &[], &[], 0), 9);
+    assert_eq!(
+        combine(2, false, 1, &FIRST[1..], &two[8..], &two[8..], 0),
+        9
+    );
+    assert_eq!(
+        combine(2, false, 1, &FIRST[1..], &bad[8..], &two[8..], 0),
+        6
+    );
+    assert_eq!(combine(2, false, 1, &FIRST[1..], &two[8..], &two, 0), 4);
+    assert_eq!(
+        combine(2, false, 1, &FIRST[1..], &two[1..], &two[1..], 0),
+        4
+    );
     let long = query(3, 1, &[0]);
-    assert_eq!(combine(2, 1, &long, &two, &two, 0), 9);
-    assert_eq!(combine(3, 1, &long, &two, &two, 0), 4);
+    assert_eq!(combine(2, false, 1, &long, &two, &two, 0), 9);
+    assert_eq!(combine(3, false, 1, &long, &two, &two, 0), 4);
 }
 
 /// Combining's space is that of the answer it would write.
@@ -232,19 +241,25 @@ fn combine_pairs() {
 fn combine_space() {
     let share0 = shared(&[P - 1, 7]);
     let share1 = shared(&[3, P - 6]);
-    assert_eq!(combine(2, 2, &FIRST, &share0, &share1, 8), 0);
-    assert_eq!(combine(2, 2, &FIRST, &share0, &share1, 7), 11);
-    assert_eq!(combine(2, 1, &FIRST, &share0, &share1, 10), 0);
-    assert_eq!(combine(2, 1, &FIRST, &share0, &share1, 9), 11);
-    assert_eq!(combine(2, 3, &FIRST, &share0, &share1, 0), 0);
-    assert_eq!(combine(1, 2, &FIRST, &share0, &share1, 1), 0);
-    assert_eq!(combine(1, 2, &FIRST, &share0, &share1, 0), 11);
-    assert_eq!(combine(1, 3, &FIRST, &share0, &share1, 0), 0);
+    assert_eq!(combine(2, false, 2, &FIRST, &share0, &share1, 8), 0);
+    assert_eq!(combine(2, false, 2, &FIRST, &share0, &share1, 7), 11);
+    assert_eq!(combine(2, false, 1, &FIRST, &share0, &share1, 10), 0);
+    assert_eq!(combine(2, false, 1, &FIRST, &share0, &share1, 9), 11);
+    assert_eq!(combine(2, false, 3, &FIRST, &share0, &share1, 0), 0);
+    assert_eq!(combine(1, false, 2, &FIRST, &share0, &share1, 1), 0);
+    assert_eq!(combine(1, false, 2, &FIRST, &share0, &share1, 0), 11);
+    assert_eq!(combine(1, false, 3, &FIRST, &share0, &share1, 0), 0);
     let eight = query(8, 1, &[5]);
-    assert_eq!(combine(9, 1, &eight, &shared(&[1]), &shared(&[0]), 10), 0);
-    assert_eq!(combine(9, 1, &eight, &shared(&[1]), &shared(&[0]), 9), 11);
+    assert_eq!(
+        combine(9, false, 1, &eight, &shared(&[1]), &shared(&[0]), 10),
+        0
+    );
+    assert_eq!(
+        combine(9, false, 1, &eight, &shared(&[1]), &shared(&[0]), 9),
+        11
+    );
     let huge = shared(&[P - 1]);
-    assert_eq!(combine(8, 65_535, &eight, &huge, &huge, 0), 11);
+    assert_eq!(combine(8, false, 65_535, &eight, &huge, &huge, 0), 11);
 }
 
 /// A next query of more than 131,070 prefixes gives 11 whatever the space; a list does not.
@@ -252,21 +267,31 @@ fn combine_space() {
 fn combine_passing() {
     let zeros = vec![0; 65_536 * 8];
     let ones = shared(&vec![1; 65_536]);
-    assert_eq!(combine(25, 1, &wide(65_536), &ones, &zeros, usize::MAX), 11);
-    assert_eq!(combine(24, 1, &wide(65_536), &ones, &zeros, 65_536 * 3), 0);
+    assert_eq!(
+        combine(25, false, 1, &wide(65_536), &ones, &zeros, usize::MAX),
+        11
+    );
+    assert_eq!(
+        combine(24, false, 1, &wide(65_536), &ones, &zeros, 65_536 * 3),
+        0
+    );
     let space = 6 + 131_070 * 4;
     let (some, none) = (&ones[8..], &zeros[8..]);
-    assert_eq!(combine(25, 1, &wide(65_535), some, none, space), 0);
-    assert_eq!(combine(25, 1, &wide(65_535), some, none, space - 1), 11);
+    assert_eq!(combine(25, false, 1, &wide(65_535), some, none, space), 0);
+    assert_eq!(
+        combine(25, false, 1, &wide(65_535), some, none, space - 1),
+        11
+    );
     let past = vec![0; 131_071 * 8];
-    assert_eq!(combine(25, 1, &wide(131_071), &past, &past, 0), 9);
+    assert_eq!(combine(25, false, 1, &wide(131_071), &past, &past, 0), 9);
 }
 
 /// The search judges 4 to 8 in order and over both servers.
 #[test]
 fn search_pairs() {
     let good = public(1, 1);
-    let judge = |s0: &[u8], p0: &[u8], s1: &[u8], p1: &[u8]| search(1, 1, 2, s0, p0, s1, p1, 0, 0);
+    let judge =
+        |s0: &[u8], p0: &[u8], s1: &[u8], p1: &[u8]| search(1, false, 1, 2, s0, p0, s1, p1, 0, 0);
     assert_eq!(judge(&SEED, &good, &[1; 16], &good), 0);
     assert_eq!(judge(&SEED, &good, &SEED, &public(0, 1)), 8);
     assert_eq!(judge(&SEED, &good, &SEED, &public(4, 1)), 7);

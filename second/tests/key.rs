@@ -55,6 +55,7 @@ fn judge(text: &str) {
     let made = key(
         n as u64,
         expander,
+        1,
         &pack(&bits),
         &seed0,
         &seed1,

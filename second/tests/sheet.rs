@@ -10,7 +10,7 @@ const ONE: [u8; 16] = [1, 0, 0, 0, 0, 0, 0, 0, 0, 0, 0, 0, 0, 0, 0, 0];
 
 fn made(n: usize, string: &[u8], s0: &[u8], s1: &[u8]) -> Vec<u8> {
     let mut space = vec![0u8; public_share_size(n)];
-    let reply = key(n as u64, 2, string, s0, s1, &mut space);
+    let reply = key(n as u64, 2, 1, string, s0, s1, &mut space);
     let length = space.len() as u64;
     assert_eq!(reply, Reply { number: 0, length });
     space
@@ -68,7 +68,9 @@ fn collection(strings: [&str; 3]) -> (Vec<u8>, Vec<u8>, Vec<u8>) {
 
 fn searched(strings: [&str; 3], record: &mut [u8], list: &mut [u8]) -> Found {
     let (seeds0, seeds1, public) = collection(strings);
-    search(2, 2, 2, &seeds0, &public, &seeds1, &public, record, list)
+    search(
+        2, false, 2, 2, &seeds0, &public, &seeds1, &public, record, list,
+    )
 }
 
 /// The record of two queries with these totals.
@@ -122,7 +124,18 @@ fn d_e_f_j() {
 fn g_no_reports() {
     for expander in [1, 2] {
         let mut record = [0xeeu8; 24];
-        let found = search(1, 1, expander, &[], &[], &[], &[], &mut record, &mut []);
+        let found = search(
+            1,
+            false,
+            1,
+            expander,
+            &[],
+            &[],
+            &[],
+            &[],
+            &mut record,
+            &mut [],
+        );
         assert_eq!(
             (found.number, found.record_length, found.list_length),
             (0, 24, 0)
@@ -143,6 +156,7 @@ fn i_payload_corrections() {
         let mut record = [0u8; 24];
         let found = search(
             1,
+            false,
             1,
             2,
             &ZERO,
@@ -160,17 +174,17 @@ fn i_payload_corrections() {
 fn bounds_of_n_and_t() {
     let mut space = vec![0u8; public_share_size(256)];
     for (n, number) in [(256, 0), (257, 1), (0, 1), (1 << 63, 1), (u64::MAX, 1)] {
-        let reply = key(n, 1, &[5; 32], &ZERO, &ONE, &mut space);
+        let reply = key(n, 1, 1, &[5; 32], &ZERO, &ONE, &mut space);
         assert_eq!(reply.number, number);
         let reply = share(n, 1, false, &[], &[], &first(), &mut [0; 16]);
         assert_eq!(reply.number, number);
-        let found = search(n, 1, 1, &[], &[], &[], &[], &mut [0; 24], &mut []);
+        let found = search(n, false, 1, 1, &[], &[], &[], &[], &mut [0; 24], &mut []);
         assert_eq!(found.number, number);
-        let made = combine(n, 1, &first(), &[0; 16], &[0; 16], &mut []);
+        let made = combine(n, false, 1, &first(), &[0; 16], &[0; 16], &mut []);
         assert_eq!(made.number, number);
     }
     for (t, number) in [(1, 0), (65_535, 0), (0, 2), (65_536, 2), (u64::MAX, 2)] {
-        let made = combine(1, t, &first(), &[0; 16], &[0; 16], &mut []);
+        let made = combine(1, false, t, &first(), &[0; 16], &[0; 16], &mut []);
         let kind = if number == 0 { 2 } else { 0 };
         let wanted = Combined {
             number,
@@ -178,7 +192,7 @@ fn bounds_of_n_and_t() {
             length: 0,
         };
         assert_eq!(made, wanted);
-        let found = search(1, t, 1, &[], &[], &[], &[], &mut [0; 24], &mut []);
+        let found = search(1, false, t, 1, &[], &[], &[], &[], &mut [0; 24], &mut []);
         assert_eq!(found.number, number);
     }
 }

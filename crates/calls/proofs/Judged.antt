@@ -11,7 +11,7 @@ use lib.Dec.{T, ltb, ltb→lt, lt→ltb}
 use Rattle.places.specs.Places.{overlay}
 use Rattle.expander.specs.Expander.{isExpander}
 use Rattle.expander.proofs.Chosen.{unnamed, unnamed-test}
-use Rattle.calls.specs.Bounds.{mostBits, mostThreshold, mostReports, outside, lengthCause, thresholdCause, expanderCause, reportsCause, spaceCause}
+use Rattle.calls.specs.Bounds.{mostBits, thresholdMost, thresholdNumber, mostReports, outside, lengthCause, thresholdCause, expanderCause, reportsCause, spaceCause}
 use Rattle.calls.specs.Causes.{Cause, cause, numberDue, Due}
 use Rattle.calls.specs.Outcome.{Outcome, refused, accepted, judged, Exit, exit, left}
 use Rattle.calls.specs.declared.Reply.{Reply}
@@ -36,8 +36,14 @@ number-due (next {k} {P} {b} {cs} sound complete d) = go b sound complete (numbe
 pub length-decided : {cs : List Cause} (n : ℕ) → Decided cs → Decided (lengthCause n ∷ cs)
 length-decided n = next {b = outside mostBits n} (beyond mostBits n) (beyond-test mostBits n)
 
-pub threshold-decided : {cs : List Cause} (t : ℕ) → Decided cs → Decided (thresholdCause t ∷ cs)
-threshold-decided t = next {b = outside mostThreshold t} (beyond mostThreshold t) (beyond-test mostThreshold t)
+pub threshold-decided : {cs : List Cause} (weighted : Bool) (t : ℕ) → Decided cs → Decided (thresholdCause weighted t ∷ cs)
+threshold-decided weighted t =
+    next {b = outside (thresholdMost weighted) t} (beyond (thresholdMost weighted) t) (beyond-test (thresholdMost weighted) t)
+
+-- the number of the threshold's cause is one of a refusal
+pub threshold-numbered : (weighted : Bool) → 1 ≤ thresholdNumber weighted
+threshold-numbered false = omega arith
+threshold-numbered true = omega arith
 
 pub expander-decided : {cs : List Cause} (e : ℕ) → Decided cs → Decided (expanderCause e ∷ cs)
 expander-decided e = next {b = not (isExpander e)} (unnamed e) (unnamed-test e)

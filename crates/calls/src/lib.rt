@@ -1,7 +1,7 @@
 // What several calls share: the bounds of what they are lent, and what a call that writes into one lent space returns.
 ghost use mathlib.Core.Path.{_≡_};
 ghost use lib.Dec.{ltb};
-ghost use Rattle.calls.specs.Bounds.{mostBits, mostThreshold, mostReports, outside};
+ghost use Rattle.calls.specs.Bounds.{mostBits, thresholdMost, thresholdNumber, mostReports, outside};
 
 // The number of the cause that refused it, or 0; and how many bytes were written.
 #[repr(C)]
@@ -27,11 +27,21 @@ pub fn length_outside(n: u64) -> bool
     outside(256, n)
 }
 
-// Whether the threshold t is outside its bounds.
-pub fn threshold_outside(t: u64) -> bool
-    ensures { λ r. ⌜ r ≡ outside mostThreshold t ⌝ }
+// Whether the threshold t of a search that is weighted or not is outside its bounds.
+pub fn threshold_outside(weighted: bool, t: u64) -> bool
+    ensures { λ r. ⌜ r ≡ outside (thresholdMost weighted) t ⌝ }
 {
+    if weighted {
+        return outside(2147483647, t);
+    }
     outside(65535, t)
+}
+
+// The number that refuses such a threshold: 2, or 12 where the search is weighted.
+pub fn threshold_number(weighted: bool) -> u64
+    ensures { λ r. ⌜ r ≡ thresholdNumber weighted ⌝ }
+{
+    if weighted { 12 } else { 2 }
 }
 
 // Whether there are more reports than a call takes.

@@ -1,5 +1,6 @@
 -- The kinds of combining's answers as C reads them.
 use Prim.Native.Nat.{ℕ}
+use mathlib.Core.Bool.{Bool}
 use mathlib.Core.List.{List}
 use mathlib.Core.Option.{Option, none, some}
 use Rattle.combine.specs.Answer.{Kind, nextQuery, heavyList, searchEnded}
@@ -21,9 +22,9 @@ pub record InC : Type 0 where
   pub area : List ℕ
 
 -- what combining returns, and the space that it is lent, at exit
-abbrev pub combineInC : ℕ → ℕ → List ℕ → List ℕ → List ℕ → List ℕ → InC
-combineInC n t query share0 share1 area =
-    let x = combineExit n t query share0 share1 area in
+abbrev pub combineInC : ℕ → Bool → ℕ → List ℕ → List ℕ → List ℕ → List ℕ → InC
+combineInC n weighted t query share0 share1 area =
+    let x = combineExit n weighted t query share0 share1 area in
     record { number = x .number; kind = kindNumber (x .kind); length = x .length; area = x .area }
 
 -- what was returned, and the space as it was left

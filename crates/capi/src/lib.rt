@@ -47,20 +47,21 @@ pub extern "C" fn tally_block(expander: u64, seed: &[u8], j: u64, block: &mut [u
     }
 }
 
-// Writes the public share of a packed string of n bits; refuses with 1, 3, 4, 7 or 11.
+// Writes the public share of a packed string of n bits with its weight; refuses with 1, 3, 4, 7 or 11.
 #[no_mangle]
 pub extern "C" fn tally_key(
     n: u64,
     expander: u64,
+    weight: i16,
     string: &[u8],
     seed0: &[u8],
     seed1: &[u8],
     public_share: &mut [u8],
 ) -> Reply
-    ensures { λ r. ⌜ left r (now («public_share» .exit)) ≡ keyExit n expander (now (string .entry)) (now (seed0 .entry)) (now (seed1 .entry))
+    ensures { λ r. ⌜ left r (now («public_share» .exit)) ≡ keyExit n expander weight (now (string .entry)) (now (seed0 .entry)) (now (seed1 .entry))
         (now («public_share» .entry)) ⌝ }
 {
-    keymaker::make_key(n, expander, string, seed0, seed1, public_share)
+    keymaker::make_key(n, expander, weight, string, seed0, seed1, public_share)
 }
 
 // Writes a server's share for a query, 8 bytes a prefix; the server is told by a truth value, true for 1. Refuses with 1, 3, 4, 5, 6,
@@ -98,19 +99,21 @@ pub struct CombineReply {
     pub length: u64,
 }
 
-// Writes the next query, or at length n the list, from two servers' shares for a query; refuses with 1, 2, 4, 6, 9 or 11.
+// Writes the next query, or at length n the list, from two servers' shares for a query; refuses with 1, 2, 4, 6, 9 or 11, and with 12 in the place of 2
+// where the search is weighted.
 #[no_mangle]
 pub extern "C" fn tally_combine(
     n: u64,
+    weighted: bool,
     t: u64,
     query: &[u8],
     share0: &[u8],
     share1: &[u8],
     out: &mut [u8],
 ) -> CombineReply
-    ensures { λ r. ⌜ inC r (now (out .exit)) ≡ combineInC n t (now (query .entry)) (now (share0 .entry)) (now (share1 .entry)) (now (out .entry)) ⌝ }
+    ensures { λ r. ⌜ inC r (now (out .exit)) ≡ combineInC n weighted t (now (query .entry)) (now (share0 .entry)) (now (share1 .entry)) (now (out .entry)) ⌝ }
 {
-    match combine::combine(n, t, query, share0, share1, out) {
+    match combine::combine(n, weighted, t, query, share0, share1, out) {
         Combined::Next(length) => CombineReply {
             number: 0,
             kind: 1,
@@ -134,10 +137,12 @@ pub extern "C" fn tally_combine(
     }
 }
 
-// Writes the record and the list of a whole search; refuses with 1 to 8 or 11, and with 11 makes every byte of the record area zero.
+// Writes the record and the list of a whole search; refuses with 1 to 8, with 12 in the place of 2 where it is weighted, or with 11, and then makes every
+// byte of the record area zero.
 #[no_mangle]
 pub extern "C" fn tally_search(
     n: u64,
+    weighted: bool,
     t: u64,
     expander: u64,
     seeds0: &[u8],
@@ -147,12 +152,13 @@ pub extern "C" fn tally_search(
     record: &mut [u8],
     list: &mut [u8],
 ) -> Found
-    ensures { λ r. ⌜ returned r (now («record» .exit)) (now (list .exit)) ≡ searchEnding (lent n t expander (now (seeds0 .entry))
+    ensures { λ r. ⌜ returned r (now («record» .exit)) (now (list .exit)) ≡ searchEnding (lent n weighted t expander (now (seeds0 .entry))
         (now («public_shares0» .entry))
         (now (seeds1 .entry)) (now («public_shares1» .entry)) (now («record» .entry)) (now (list .entry))) ⌝ }
 {
     search::search(
         n,
+        weighted,
         t,
         expander,
         seeds0,
@@ -182,16 +188,16 @@ pub extern "C" fn tally_respond(text: &[u8], out: &mut [u8]) -> Reply
 
 // Space that is enough for the record of a search over this many honest reports; 0 where an argument is outside its bounds.
 #[no_mangle]
-pub extern "C" fn tally_record_space(n: u64, t: u64, reports: u64) -> u64
-    ensures { λ r. ⌜ r ≡ namedRecordSpace n t reports ⌝ }
+pub extern "C" fn tally_record_space(n: u64, weighted: bool, t: u64, reports: u64) -> u64
+    ensures { λ r. ⌜ r ≡ namedRecordSpace n weighted t reports ⌝ }
 {
-    space::record_space(n, t, reports)
+    space::record_space(n, weighted, t, reports)
 }
 
 // Space that is enough for the list of a search over this many honest reports; 0 where an argument is outside its bounds.
 #[no_mangle]
-pub extern "C" fn tally_list_space(n: u64, t: u64, reports: u64) -> u64
-    ensures { λ r. ⌜ r ≡ namedListSpace n t reports ⌝ }
+pub extern "C" fn tally_list_space(n: u64, weighted: bool, t: u64, reports: u64) -> u64
+    ensures { λ r. ⌜ r ≡ namedListSpace n weighted t reports ⌝ }
 {
-    space::list_space(n, t, reports)
+    space::list_space(n, weighted, t, reports)
 }

@@ -37,7 +37,7 @@ passes-test ended h = h
 
 -- ---- the number that is due
 
-module _ (n t : ℕ) (query share0 share1 : List ℕ) (room : ℕ) (byte : (i : ℕ) → getD query i 0 < 256) where
+module _ (n : ℕ) (weighted : Bool) (t : ℕ) (query share0 share1 : List ℕ) (room : ℕ) (byte : (i : ℕ) → getD query i 0 < 256) where
   a-query : T (isQuery n query) → IsQuery n query
   a-query h = query-exact n query byte .0 (passed (isQuery n query) h)
 
@@ -61,24 +61,24 @@ module _ (n t : ℕ) (query share0 share1 : List ℕ) (room : ℕ) (byte : (i : 
       (both-test (isQuery n query) other-count a-query-holds (differ-test _ _))
 
   abbrev no-room : Bool
-  no-room = ltb room (length (combineBytes n t query share0 share1))
+  no-room = ltb room (length (combineBytes n weighted t query share0 share1))
 
   abbrev past-limit : Bool
-  past-limit = passesLimit (combineAnswer n t query share0 share1)
+  past-limit = passesLimit (combineAnswer n weighted t query share0 share1)
 
   -- for all numbers and shares, where each element of the query is below 256
-  pub combine-due : Due (combineCauses n t query share0 share1 room) (combineOutcome n t query share0 share1 room .number)
+  pub combine-due : Due (combineCauses n weighted t query share0 share1 room) (combineOutcome n weighted t query share0 share1 room .number)
   unfolding combineOutcome
   combine-due =
       due
       (length-decided n
-      (threshold-decided t
+      (threshold-decided weighted t
       (also {b = wrongShares n query share0 share1} wrong wrong-test
       (numbers-decided share0 share1
       (also {b = not (isQuery n query)}
       (λ h q. true≢false (sym (a-query-test q) ∙ failed (isQuery n query) h))
       (λ g. not-T (isQuery n query) (λ h. g (a-query h)))
       (also {b = no-room || past-limit}
-      (either no-room past-limit (ltb→lt room _) (passes (combineAnswer n t query share0 share1)))
-      (either-test no-room past-limit (lt→ltb room _) (passes-test (combineAnswer n t query share0 share1))) none))))))
+      (either no-room past-limit (ltb→lt room _) (passes (combineAnswer n weighted t query share0 share1)))
+      (either-test no-room past-limit (lt→ltb room _) (passes-test (combineAnswer n weighted t query share0 share1))) none))))))
       _

@@ -12,7 +12,7 @@ use Rattle.bits.specs.Packing.{packedLength}
 use Rattle.calls.specs.Bounds.{mostBits}
 use Rattle.calls.specs.Causes.{numberDue}
 use Rattle.calls.proofs.Decisions.{neither, bounds}
-use Rattle.calls.proofs.Judged.{Clear, number-clear}
+use Rattle.calls.proofs.Judged.{Clear, number-clear, threshold-numbered}
 use Rattle.group.specs.Modular.{field}
 use Rattle.kept.proofs.Kept.{kept-all, kept-length}
 use Rattle.query.specs.Query.{OfLength, packs, query, isQuery, prefixLength, prefixCount, prefixesOf, children}
@@ -25,16 +25,16 @@ use Rattle.shares.proofs.Matching.{matched}
 use Rattle.combine.specs.Combine.{shareTotals, passing, lentCauses}
 
 -- The query passes, and each share has a number for each prefix.
-pub record Ready (n t : ℕ) (q s0 s1 : List ℕ) : Type 0 where
+pub record Ready (n : ℕ) (weighted : Bool) (t : ℕ) (q s0 s1 : List ℕ) : Type 0 where
   pub some-bits : 1 ≤ n
   pub not-longer : n ≤ 256
-  pub clear : Clear (lentCauses n t q s0 s1)
+  pub clear : Clear (lentCauses n weighted t q s0 s1)
   pub a-query : isQuery n q ≡ true
   pub first : length s0 ≡ 8 * prefixCount q
   pub second : length s1 ≡ 8 * prefixCount q
 
-module _ (n t : ℕ) (q s0 s1 : List ℕ) where
-  pub clear-ready : Clear (lentCauses n t q s0 s1) → Ready n t q s0 s1
+module _ (n : ℕ) (weighted : Bool) (t : ℕ) (q s0 s1 : List ℕ) where
+  pub clear-ready : Clear (lentCauses n weighted t q s0 s1) → Ready n weighted t q s0 s1
   clear-ready z =
       let inside = bounds mostBits n (z .0) in
       let passes : isQuery n q ≡ true = not-false (isQuery n q) (z .1 .1 .1 .1 .0) in
@@ -50,8 +50,8 @@ module _ (n t : ℕ) (q s0 s1 : List ℕ) where
         second = sym (matched s0 s1 (l .0) .0) ∙ counted;
       }
 
-  pub ready : numberDue (lentCauses n t q s0 s1) ≡ 0 → Ready n t q s0 s1
-  ready h = clear-ready (number-clear (lentCauses n t q s0 s1) (omega arith, (omega arith, (omega arith, (omega arith, (omega arith, tt))))) h)
+  pub ready : numberDue (lentCauses n weighted t q s0 s1) ≡ 0 → Ready n weighted t q s0 s1
+  ready h = clear-ready (number-clear (lentCauses n weighted t q s0 s1) (omega arith, (threshold-numbered weighted, (omega arith, (omega arith, (omega arith, tt))))) h)
 
 -- ---- the kept prefixes
 
@@ -68,7 +68,7 @@ prefixes-long n q byte e =
       read-length (is .k) (is .prefixes) (is .in-field),
     ) (is .one-length)
 
-module _ (n t : ℕ) (q s0 s1 : List ℕ) (byte : (i : ℕ) → getD q i 0 < 256) (r : Ready n t q s0 s1) (passes : ℕ → Bool) where
+module _ (n : ℕ) (weighted : Bool) (t : ℕ) (q s0 s1 : List ℕ) (byte : (i : ℕ) → getD q i 0 < 256) (r : Ready n weighted t q s0 s1) (passes : ℕ → Bool) where
   pub kept-long : OfLength (prefixLength q) (passing passes q s0 s1)
   kept-long = kept-all passes _ (prefixesOf q) (shareTotals s0 s1) (prefixes-long n q byte (r .a-query))
 

@@ -1,4 +1,4 @@
--- The call `combine`: document 01, 'The search' and 'Causes of refusal'.
+-- The call `combine`: document 01, 'The search' and 'Causes of refusal', and document 02, [1].
 use Prim.Native.Nat.{ℕ, _*_, _<_}
 use mathlib.Core.Bool.{Bool, false, cond, not, _&&_, _||_}
 use mathlib.Core.List.{List, [], _∷_, _++_}
@@ -13,7 +13,7 @@ use Rattle.calls.specs.Causes.{Cause, cause, numberDue}
 use Rattle.calls.specs.Outcome.{Outcome, judged}
 use Rattle.group.specs.Modular.{field}
 use Rattle.kept.specs.declared.Rule.{Rule}
-use Rattle.kept.specs.Kept.{reaches, reachesBy, kept}
+use Rattle.kept.specs.Kept.{reachesAs, reachesBy, kept}
 use Rattle.query.specs.Query.{limit, IsQuery, isQuery, prefixLength, prefixCount, prefixesOf}
 use Rattle.shares.specs.ShareNumbers.{numbers, added, Unmatched, unmatched, numbersCause}
 use Rattle.combine.specs.Answer.{Answer, next, list, ended, answerAt, answerBytes, Kind, kind, numberOf, lengthOf, kindOf}
@@ -38,17 +38,17 @@ passing passes query share0 share1 = kept passes (prefixesOf query) (shareTotals
 abbrev pub keptBy : Rule → List ℕ → List ℕ → List ℕ → List Bits
 keptBy rule = passing (reachesBy rule)
 
--- the kept prefixes of the query: those whose total is at least t
-abbrev pub keptPrefixes : ℕ → List ℕ → List ℕ → List ℕ → List Bits
-keptPrefixes t = passing (reaches t)
+-- the kept prefixes of the query: those whose total, read as a signed number where the search is weighted, is at least t
+abbrev pub keptPrefixes : Bool → ℕ → List ℕ → List ℕ → List ℕ → List Bits
+keptPrefixes weighted t = passing (reachesAs weighted t)
 
 -- the answer
-abbrev pub combineAnswer : ℕ → ℕ → List ℕ → List ℕ → List ℕ → Answer
-combineAnswer n t query share0 share1 = answerAt n (prefixLength query) (keptPrefixes t query share0 share1)
+abbrev pub combineAnswer : ℕ → Bool → ℕ → List ℕ → List ℕ → List ℕ → Answer
+combineAnswer n weighted t query share0 share1 = answerAt n (prefixLength query) (keptPrefixes weighted t query share0 share1)
 
 -- what is to be written
-abbrev pub combineBytes : ℕ → ℕ → List ℕ → List ℕ → List ℕ → List ℕ
-combineBytes n t query share0 share1 = answerBytes (prefixLength query) (combineAnswer n t query share0 share1)
+abbrev pub combineBytes : ℕ → Bool → ℕ → List ℕ → List ℕ → List ℕ → List ℕ
+combineBytes n weighted t query share0 share1 = answerBytes (prefixLength query) (combineAnswer n weighted t query share0 share1)
 
 -- a next query would pass 131,070 prefixes; and the test
 abbrev pub PassesLimit : Answer → Type 0
@@ -62,36 +62,36 @@ passesLimit (list ss) = false
 passesLimit ended = false
 
 -- the causes of what is lent
-abbrev pub lentCauses : ℕ → ℕ → List ℕ → List ℕ → List ℕ → List Cause
-lentCauses n t query share0 share1 =
+abbrev pub lentCauses : ℕ → Bool → ℕ → List ℕ → List ℕ → List ℕ → List Cause
+lentCauses n weighted t query share0 share1 =
     lengthCause n
-    ∷ thresholdCause t
+    ∷ thresholdCause weighted t
     ∷ cause 4 (WrongShares n query share0 share1) (wrongShares n query share0 share1)
     ∷ numbersCause share0 share1
     ∷ cause 9 (IsQuery n query → ⊥) (not (isQuery n query))
     ∷ []
 
 -- the cause of what is to be written
-abbrev pub spaceCauses : ℕ → ℕ → List ℕ → List ℕ → List ℕ → ℕ → List Cause
-spaceCauses n t query share0 share1 room =
-    cause 11 ((room < length (combineBytes n t query share0 share1)) ⊎ PassesLimit (combineAnswer n t query share0 share1))
-    (ltb room (length (combineBytes n t query share0 share1)) || passesLimit (combineAnswer n t query share0 share1))
+abbrev pub spaceCauses : ℕ → Bool → ℕ → List ℕ → List ℕ → List ℕ → ℕ → List Cause
+spaceCauses n weighted t query share0 share1 room =
+    cause 11 ((room < length (combineBytes n weighted t query share0 share1)) ⊎ PassesLimit (combineAnswer n weighted t query share0 share1))
+    (ltb room (length (combineBytes n weighted t query share0 share1)) || passesLimit (combineAnswer n weighted t query share0 share1))
     ∷ []
 
 -- all, in the order in which they are judged
-abbrev pub combineCauses : ℕ → ℕ → List ℕ → List ℕ → List ℕ → ℕ → List Cause
-combineCauses n t query share0 share1 room = lentCauses n t query share0 share1 ++ spaceCauses n t query share0 share1 room
+abbrev pub combineCauses : ℕ → Bool → ℕ → List ℕ → List ℕ → List ℕ → ℕ → List Cause
+combineCauses n weighted t query share0 share1 room = lentCauses n weighted t query share0 share1 ++ spaceCauses n weighted t query share0 share1 room
 
 -- the outcome: the number, and what is written
-unfoldable pub combineOutcome : ℕ → ℕ → List ℕ → List ℕ → List ℕ → ℕ → Outcome
-combineOutcome n t query share0 share1 room = judged (combineCauses n t query share0 share1 room) (combineBytes n t query share0 share1)
+unfoldable pub combineOutcome : ℕ → Bool → ℕ → List ℕ → List ℕ → List ℕ → ℕ → Outcome
+combineOutcome n weighted t query share0 share1 room = judged (combineCauses n weighted t query share0 share1 room) (combineBytes n weighted t query share0 share1)
 
 -- the kind of answer where the number is 0; else none
 abbrev pub kindWith : ℕ → Answer → Option Kind
 kindWith number a = cond (eqb number 0) (some (kind a)) none
 
-unfoldable pub combineKind : ℕ → ℕ → List ℕ → List ℕ → List ℕ → ℕ → Option Kind
-combineKind n t query share0 share1 room = kindWith (numberDue (combineCauses n t query share0 share1 room)) (combineAnswer n t query share0 share1)
+unfoldable pub combineKind : ℕ → Bool → ℕ → List ℕ → List ℕ → List ℕ → ℕ → Option Kind
+combineKind n weighted t query share0 share1 room = kindWith (numberDue (combineCauses n weighted t query share0 share1 room)) (combineAnswer n weighted t query share0 share1)
 
 -- The number, the kind of answer and the length that the call returns, and the lent space at exit.
 pub record CombineExit : Type 0 where
@@ -101,10 +101,10 @@ pub record CombineExit : Type 0 where
   pub area : List ℕ
 
 -- what the call returns, and the space that it is lent, at exit
-abbrev pub combineExit : ℕ → ℕ → List ℕ → List ℕ → List ℕ → List ℕ → CombineExit
-combineExit n t query share0 share1 area =
-    let o = combineOutcome n t query share0 share1 (length area) in
-    record { number = o .number; kind = combineKind n t query share0 share1 (length area); length = length (o .written); area = overlay (o .written) area }
+abbrev pub combineExit : ℕ → Bool → ℕ → List ℕ → List ℕ → List ℕ → List ℕ → CombineExit
+combineExit n weighted t query share0 share1 area =
+    let o = combineOutcome n weighted t query share0 share1 (length area) in
+    record { number = o .number; kind = combineKind n weighted t query share0 share1 (length area); length = length (o .written); area = overlay (o .written) area }
 
 -- what was returned, and the space as it was left
 unfoldable pub told : Combined → List ℕ → CombineExit

@@ -1,4 +1,4 @@
-// The causes of what is lent: 1, 2, 4, 6 and 9.
+// The causes of what is lent: 1, 2 or 12, 4, 6 and 9.
 ghost use mathlib.Core.Path.{_≡_};
 ghost use mathlib.Core.Bool.{not, _&&_, _||_};
 ghost use Prim.Native.Nat.{_*_};
@@ -24,14 +24,21 @@ fn wrong_shares(passes: bool, query: &[u8], share0: &[u8], share1: &[u8]) -> boo
 }
 
 // The number of the first of these causes that applies, or 0.
-pub(crate) fn first_cause(n: u64, t: u64, query: &[u8], share0: &[u8], share1: &[u8]) -> u64
-    ensures { λ r. ⌜ r ≡ numberDue (lentCauses n t (now (query .entry)) (now (share0 .entry)) (now (share1 .entry))) ⌝ }
+pub(crate) fn first_cause(
+    n: u64,
+    weighted: bool,
+    t: u64,
+    query: &[u8],
+    share0: &[u8],
+    share1: &[u8],
+) -> u64
+    ensures { λ r. ⌜ r ≡ numberDue (lentCauses n weighted t (now (query .entry)) (now (share0 .entry)) (now (share1 .entry))) ⌝ }
 {
     if calls::length_outside(n) {
         return 1;
     }
-    if calls::threshold_outside(t) {
-        return 2;
+    if calls::threshold_outside(weighted, t) {
+        return calls::threshold_number(weighted);
     }
     let a_query = query::is_query(n, query);
     let below = shares::both_below(share0, share1);

@@ -19,24 +19,26 @@ pub enum Combined {
     Refused(u64),
 }
 
-// Writes the next query, or at length n the list, for the prefixes whose total is at least t; refuses with 1, 2, 4, 6, 9 or 11.
+// Writes the next query, or at length n the list, for the prefixes whose total, read as a signed number where the
+// search is weighted, is at least t; refuses with 1, 2, 4, 6, 9 or 11, and with 12 in the place of 2 where it is weighted.
 pub fn combine(
     n: u64,
+    weighted: bool,
     t: u64,
     query: &[u8],
     share0: &[u8],
     share1: &[u8],
     out: &mut [u8],
 ) -> Combined
-    ensures { λ r. ⌜ told r (now (out .exit)) ≡ combineExit n t (now (query .entry)) (now (share0 .entry)) (now (share1 .entry)) (now (out .entry)) ⌝ }
+    ensures { λ r. ⌜ told r (now (out .exit)) ≡ combineExit n weighted t (now (query .entry)) (now (share0 .entry)) (now (share1 .entry)) (now (out .entry)) ⌝ }
 {
-    let number = first_cause(n, t, query, share0, share1);
+    let number = first_cause(n, weighted, t, query, share0, share1);
     if number != 0 {
         return Combined::Refused(number);
     }
     let len = query::prefix_length(query);
     let longer = len + 1;
-    let rule = Rule { t, weighted: false };
+    let rule = Rule { t, weighted };
     let kept = count_kept(rule, share0, share1);
     if len as u64 == n {
         let list_size = kept * packed_length(len);

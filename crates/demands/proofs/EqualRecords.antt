@@ -6,7 +6,8 @@ use Rattle.places.proofs.Lists.{all-each}
 use Rattle.bits.specs.Strings.{Bits, count}
 use Rattle.tree.specs.Cut.{prefixes, cut}
 use Rattle.tree.proofs.Prefixes.{prefixes-exact, cut-shortest, cut-whole}
-use Rattle.honest.proofs.Demand2.{honest-total}
+use Rattle.honest.proofs.Demand2.{honest-total, first-add, query-most}
+use Rattle.honest.proofs.Weighted.{weighted-total, weighted-children}
 use Rattle.honest.proofs.Demand3.{records-alike, record-begins}
 use Rattle.demands.specs.Demands.{CutTo, Demand3}
 
@@ -20,4 +21,13 @@ cut-to t xs x = (
 )
 
 pub demand-3 : Demand3
-demand-3 = (cut-to, records-alike, record-begins, λ s xs honest ok q some fits. honest-total s xs honest ok q (omega arith) fits)
+demand-3 = (
+  cut-to,
+  records-alike,
+  record-begins,
+  λ s xs ws honest ones ok q some fits. honest-total s xs ws honest ones ok q (omega arith) fits,
+  λ s xs ws honest ok q some fits. weighted-total s xs ws honest ok q (omega arith) fits,
+  λ s xs ws honest ok q some short. weighted-children s xs ws honest ok q (omega arith) short,
+  first-add,
+  query-most,
+)

@@ -1,5 +1,5 @@
 -- Demand 1 holds of every call.
-use Prim.Native.Nat.{ℕ, _≤_}
+use Prim.Native.Nat.{ℕ, _≤_, _<_}
 use native.Mathlib.Omega.{arith}
 use mathlib.Core.Path.{_≡_, refl, ap, _∙_}
 use mathlib.Core.Bool.{Bool, true, false, cond}
@@ -13,6 +13,7 @@ use lib.Dec.{eqb}
 use Rattle.places.specs.Lists.{All}
 use Rattle.places.specs.Places.{overlay}
 use Rattle.places.proofs.Places.{overlay-nil, overlay-length}
+use Rattle.calls.specs.Bounds.{thresholdNumber}
 use Rattle.calls.specs.Causes.{Cause, Due}
 use Rattle.calls.specs.Outcome.{Outcome, judged}
 use Rattle.calls.proofs.Judged.{due-unique, judged-refused, judged-accepted, judged-clear, _&_}
@@ -27,7 +28,7 @@ use Rattle.exam_answering.proofs.ExamTheorems as exam
 use Rattle.exam_answering.proofs.Outputs as outputs
 use Rattle.capi.specs.Block.{blockCauses, blockOutcome}
 use Rattle.capi.proofs.Block.{block-due}
-use Rattle.demands.specs.Calls.{BlockLent, SearchLent, makeKey, serverShare, addShares, combining, wholeSearch, examAnswer, refusedLine, examOutput, oneBlock, Result, into, causes, InOrder, result}
+use Rattle.demands.specs.Calls.{BlockLent, SearchLent, makeKey, serverShare, addShares, combining, wholeSearch, examAnswer, refusedLine, examOutput, oneBlock, Result, into, causes, rank, InOrder, result}
 use Rattle.demands.specs.Demands.{AfterRefusal, AfterSuccess, Demand1}
 
 -- what demand 1 says of a call with the causes cs
@@ -82,6 +83,17 @@ block-kept l =
     let written : judged own bytes .written ≡ bytes = ap (λ (o : Outcome). o .written) (judged-accepted own bytes clear) in
     omega (arith, room, ap length written, at-most (l .expander) (l .seed) (l .j)))
 
+-- ---- the threshold's number
+
+-- it stands after 1, and before every number above 2
+after-1 : (weighted : Bool) → rank 1 < rank (thresholdNumber weighted)
+after-1 false = omega arith
+after-1 true = omega arith
+
+before : (weighted : Bool) (k : ℕ) → 2 < rank k → rank (thresholdNumber weighted) < rank k
+before false k h = h
+before true k h = h
+
 -- ---- the whole search
 
 -- what a refusal leaves of the record area
@@ -98,7 +110,7 @@ search-kept l =
     let s = l .lent in
     let d = call.search-number s (l .bytes .1 .0) (l .bytes .1 .1 .1 .0) in
     let sizes = call.area-lengths s in (
-      omega arith & omega arith & omega arith & omega arith & omega arith & omega arith & omega arith & omega arith & tt,
+      after-1 (s .weighted) & before (s .weighted) 3 (omega arith) & omega arith & omega arith & omega arith & omega arith & omega arith & omega arith & tt,
       d .0,
       d .1,
       λ h. let r = call.search-refused s h in ((r .0, record-left s h), ((r .1, r .2), tt)),
@@ -118,9 +130,9 @@ search-kept l =
 
 pub demand-1 : Demand1
 demand-1 (makeKey l) =
-    let same = call.key-number (l .n) (l .expander) (l .string) (l .seed0) (l .seed1) (l .out) in
-    one (causes (makeKey l)) (omega arith & omega arith & omega arith & omega arith & tt) (l .out) none _ same (call.key-refused (l .n) (l .expander) (l .string) (l .seed0) (l .seed1) (l .out)) (λ h. refl)
-    (λ h. let w = call.key-written (l .n) (l .expander) (l .string) (l .seed0) (l .seed1) (l .out) (l .bytes .1 .0) (l .bytes .1 .1 .0) h in rw (w .0) (w .1))
+    let same = call.key-number (l .n) (l .expander) (l .weight) (l .string) (l .seed0) (l .seed1) (l .out) in
+    one (causes (makeKey l)) (omega arith & omega arith & omega arith & omega arith & tt) (l .out) none _ same (call.key-refused (l .n) (l .expander) (l .weight) (l .string) (l .seed0) (l .seed1) (l .out)) (λ h. refl)
+    (λ h. let w = call.key-written (l .n) (l .expander) (l .weight) (l .string) (l .seed0) (l .seed1) (l .out) (l .bytes .1 .0) (l .bytes .1 .1 .0) h in rw (w .0) (w .1))
 demand-1 (serverShare l) =
     let same = call.share-number (l .n) (l .expander) (l .server) (l .seeds) (l .publicShares) (l .query) (l .out) (l .bytes .1 .0) (l .bytes .1 .1 .0) in
     one (causes (serverShare l)) (omega arith & omega arith & omega arith & omega arith & omega arith & omega arith & omega arith & tt) (l .out) none _ same
@@ -131,10 +143,10 @@ demand-1 (addShares l) =
     (call.add-refused (l .share0) (l .share1) (l .out)) (λ h. refl)
     (λ h. let w = call.add-written (l .share0) (l .share1) (l .out) h in rw (w .0) (w .1))
 demand-1 (combining l) =
-    let same = call.combine-number (l .n) (l .t) (l .query) (l .share0) (l .share1) (l .out) (l .bytes .0) in
-    let refused = call.combine-refused (l .n) (l .t) (l .query) (l .share0) (l .share1) (l .out) in
-    one (causes (combining l)) (omega arith & omega arith & omega arith & omega arith & omega arith & tt) (l .out) _ _ same (λ h. (refused h .0, refused h .1)) (λ h. refused h .2)
-    (λ h. call.combine-written (l .n) (l .t) (l .query) (l .share0) (l .share1) (l .out) h .2)
+    let same = call.combine-number (l .n) (l .weighted) (l .t) (l .query) (l .share0) (l .share1) (l .out) (l .bytes .0) in
+    let refused = call.combine-refused (l .n) (l .weighted) (l .t) (l .query) (l .share0) (l .share1) (l .out) in
+    one (causes (combining l)) (after-1 (l .weighted) & before (l .weighted) 4 (omega arith) & omega arith & omega arith & omega arith & tt) (l .out) _ _ same (λ h. (refused h .0, refused h .1)) (λ h. refused h .2)
+    (λ h. call.combine-written (l .n) (l .weighted) (l .t) (l .query) (l .share0) (l .share1) (l .out) h .2)
 demand-1 (wholeSearch l) = search-kept l
 demand-1 (examAnswer l) =
     one (causes (examAnswer l)) (omega arith & omega arith & omega arith & omega arith & tt) (l .out) none _ (exam.exam-number (l .text) (l .out)) (exam.exam-refused (l .text) (l .out)) (λ h. refl)

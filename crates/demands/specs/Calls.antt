@@ -4,6 +4,7 @@ use mathlib.Core.Bool.{Bool, true, false, cond}
 use mathlib.Core.List.{List, [], _∷_}
 use mathlib.Core.Option.{Option, none}
 use lib.ListN.{length}
+use lib.IntN.{ℤ}
 use lib.Dec.{eqb}
 use Rattle.places.specs.Lists.{All}
 use Rattle.calls.specs.Bounds.{spaceCause}
@@ -26,6 +27,7 @@ use Rattle.capi.specs.Block.{blockCauses, blockOutcome}
 pub record KeyLent : Type 0 where
   pub n : ℕ
   pub expander : ℕ
+  pub weight : ℤ
   pub string : List ℕ
   pub seed0 : List ℕ
   pub seed1 : List ℕ
@@ -53,6 +55,7 @@ pub record AddLent : Type 0 where
 -- Combining two shares for a query.
 pub record CombineLent : Type 0 where
   pub n : ℕ
+  pub weighted : Bool
   pub t : ℕ
   pub query : List ℕ
   pub share0 : List ℕ
@@ -104,16 +107,17 @@ abbrev pub causes : Call → List Cause
 causes (makeKey l) = keyCauses (l .n) (l .expander) (l .string) (l .seed0) (l .seed1) (length (l .out))
 causes (serverShare l) = shareCauses (l .n) (l .expander) (l .seeds) (l .publicShares) (l .query) (length (l .out))
 causes (addShares l) = addCauses (l .share0) (l .share1) (length (l .out))
-causes (combining l) = combineCauses (l .n) (l .t) (l .query) (l .share0) (l .share1) (length (l .out))
+causes (combining l) = combineCauses (l .n) (l .weighted) (l .t) (l .query) (l .share0) (l .share1) (length (l .out))
 causes (wholeSearch l) = searchCauses (l .lent)
 causes (examAnswer l) = examCauses (l .text) (length (l .out))
 causes (refusedLine l) = spaceCause (length (refusedText (l .refusal))) (length (l .out)) ∷ []
 causes (examOutput l) = spaceCause (length (output (l .text))) (length (l .out)) ∷ []
 causes (oneBlock l) = blockCauses (l .expander) (l .seed) (length (l .out))
 
--- where a number stands in document 01's order: 'The lowest number that applies is returned, except that 10 is judged first'
+-- where a number stands in the order of the papers: 'The lowest number that applies is returned, except that 10 is judged first', and document 02,
+-- [1]: '12 .. in the place of 2'
 abbrev pub rank : ℕ → ℕ
-rank k = cond (eqb k 10) 0 k
+rank k = cond (eqb k 10) 0 (cond (eqb k 12) 2 k)
 
 -- the causes stand in that order
 abbrev pub InOrder : List Cause → Type 0
@@ -146,12 +150,12 @@ into out kind o =
 -- what the contracts say of number, lengths and areas: `keyExit`, `shareExit`, `addExit`, `combineExit`, `searchEnding`, `examExit`, `respondExit` and
 -- `blockExit` are these, part by part: `exit` of the same outcomes, and the search's own
 abbrev pub result : Call → Result
-result (makeKey l) = into (l .out) none (keyOutcome (l .n) (l .expander) (l .string) (l .seed0) (l .seed1) (length (l .out)))
+result (makeKey l) = into (l .out) none (keyOutcome (l .n) (l .expander) (l .weight) (l .string) (l .seed0) (l .seed1) (length (l .out)))
 result (serverShare l) = into (l .out) none (shareOutcome (l .n) (l .expander) (l .server) (l .seeds) (l .publicShares) (l .query) (length (l .out)))
 result (addShares l) = into (l .out) none (addOutcome (l .share0) (l .share1) (length (l .out)))
 result (combining l) =
-    into (l .out) (combineKind (l .n) (l .t) (l .query) (l .share0) (l .share1) (length (l .out)))
-    (combineOutcome (l .n) (l .t) (l .query) (l .share0) (l .share1) (length (l .out)))
+    into (l .out) (combineKind (l .n) (l .weighted) (l .t) (l .query) (l .share0) (l .share1) (length (l .out)))
+    (combineOutcome (l .n) (l .weighted) (l .t) (l .query) (l .share0) (l .share1) (length (l .out)))
 result (wholeSearch l) = record {
   number = searchNumber (l .lent);
   areas =

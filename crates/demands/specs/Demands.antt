@@ -1,16 +1,19 @@
 -- The user's three demands, sentence by sentence, as three types; `demand-1`, `demand-2` and `demand-3` in the crate's proofs are their proofs.
 -- Their calls stand in `Calls`, their keys and searches in `Words`; every other word is defined where it is brought in from.
-use Prim.Native.Nat.{ℕ, _+_, _*_, _%_, _≤_, _<_}
+use Prim.Native.Nat.{ℕ, _+_, _*_, _/_, _%_, _≤_, _<_}
 use mathlib.Core.Path.{_≡_}
 use mathlib.Core.Bool.{Bool, true, false, cond, _&&_}
-use mathlib.Core.List.{List, _++_}
+use mathlib.Core.List.{List, [], _∷_, _++_}
 use mathlib.Core.Logic.{_≢_, _↔_}
 use mathlib.Core.Option.{none}
 use lib.ListN.{length, drop, replicate}
 use lib.Dec.{eqb}
+use lib.IntN.{ℤ, _+ℤ_}
 use Rattle.places.specs.Lists.{_∈_, All}
-use Rattle.bits.specs.Strings.{Bits, isPrefix, count, Ascending}
+use Rattle.bits.specs.Strings.{Bits, _▹_, isPrefix, count, Ascending}
 use Rattle.group.specs.Modular.{modulus}
+use Rattle.signed.specs.SignedReading.{signedIn}
+use Rattle.weights.specs.Weights.{EveryOne, heldWeight}
 use Rattle.calls.specs.Causes.{Due}
 use Rattle.calls.specs.Outcome.{accepted}
 use Rattle.expander.specs.declared.Expander.{Expander}
@@ -19,10 +22,10 @@ use Rattle.query.specs.Query.{packs, IsQuery, prefixCount, prefixesOf, children
 use Rattle.tree.specs.SearchRule.{start, totals, heading}
 use Rattle.tree.specs.Cut.{cut, cuts, times, Rearranged}
 use Rattle.search.specs.Search.{Lent, countedNumber, thresholdOf, total}
-use Rattle.honest.specs.Honest.{Accepted, recordRead, listRead, Honest, countedStrings}
-use Rattle.honest.specs.Loop.{Passes, firstQuery}
+use Rattle.honest.specs.Honest.{Accepted, recordRead, listRead, Honest, countedStrings, countedWeights, HeavyThroughout}
+use Rattle.honest.specs.Loop.{Passes, firstQuery, keptAt}
 use Rattle.demands.specs.Calls.{Call, causes, InOrder, Area, result}
-use Rattle.demands.specs.Words.{Key, InBounds, made, pointKey, pointShare, pointSum, served, byCalls, Servable, Ready, Seeded, withShares}
+use Rattle.demands.specs.Words.{Key, InBounds, made, groupWeight, pointKey, pointShare, pointSum, served, byCalls, Servable, Ready, Seeded, withShares}
 
 -- ==== Demand 1
 
@@ -51,37 +54,49 @@ Demand1 =
 
 -- ==== Demand 2
 
--- the bytes are every string of n bits that at least t installations hold and no other, once each, ascending, packed; as all strings have n bits, those
--- that have x as a prefix are those that are x
-abbrev pub TheHeavyStrings : Lent → List Bits → List ℕ → Type 0
-TheHeavyStrings s xs bytes =
+-- the bytes are the strings of n bits of which `Wanted` holds and no other, once each, ascending, packed
+abbrev pub TheStrings : ℕ → (Bits → Type 0) → List ℕ → Type 0
+TheStrings n Wanted bytes =
     (ss : List Bits) × (bytes ≡ packs ss)
-    × ((x : Bits) → (x ∈ ss) ↔ ((length x ≡ s .n) × (thresholdOf s ≤ count (countedStrings s xs) x)))
+    × ((x : Bits) → (x ∈ ss) ↔ ((length x ≡ n) × Wanted x))
     × ((x : Bits) → times x ss ≤ 1)
     × Ascending ss
+
+-- those that at least t installations hold; as all strings have n bits, those that have x as a prefix are those that are x
+abbrev pub TheHeavyStrings : Lent → List Bits → List ℕ → Type 0
+TheHeavyStrings s xs = TheStrings (s .n) (λ x. thresholdOf s ≤ count (countedStrings s xs) x)
+
+-- those all of whose non-empty prefixes have holders' weights adding to t or more
+abbrev pub TheWeightedStrings : Lent → List Bits → List ℤ → List ℕ → Type 0
+TheWeightedStrings s xs ws = TheStrings (s .n) (HeavyThroughout (thresholdOf s) (countedStrings s xs) (countedWeights s ws))
 
 abbrev pub Demand2 : Type 0
 Demand2 =
     -- 'Keys .. are those of the incremental distributed point function of Boneh and others (IEEE S&P 2021) with AES-128, or with the classroom
     -- expander of document 01', which `point/specs` states step by step: the key maker writes its public share,
     ((k : Key) → InBounds k → (room : ℕ) → publicShareLength (length (k .string)) ≤ room → made k room ≡ accepted (pointKey k))
-    -- and the shares of both servers at a prefix add to 1 if the string has it, and to 0 if not.
+    -- and the shares of both servers at a prefix add to the weight if the string has it, and to 0 if not.
     × ((k : Key) → InBounds k → (q : Bits) → 1 ≤ length q → length q ≤ length (k .string)
-    → (pointShare k false q + pointShare k true q) % modulus ≡ cond (isPrefix q (k .string)) 1 0)
+    → (pointShare k false q + pointShare k true q) % modulus ≡ cond (isPrefix q (k .string)) (groupWeight k) 0)
     -- 'Keys and both servers' shares': a server's answer to a query is, for each prefix in order, the sum of its shares of all keys.
-    × ((s : Lent) (xs : List Bits) (e : Expander) → Honest s xs → Servable s xs e
+    × ((s : Lent) (xs : List Bits) (ws : List ℤ) (e : Expander) → Honest s xs ws → Servable s xs e
     → (b : Bool) (query : List ℕ) → IsQuery (s .n) query → (room : ℕ) → 8 * prefixCount query ≤ room
-    → served s b query room ≡ accepted (totals (pointSum s xs e b) (prefixesOf query)))
+    → served s b query room ≡ accepted (totals (pointSum s xs ws e b) (prefixesOf query)))
     -- 'For honestly made keys with any seeds, the list of an accepted search holds every string of the search's full length that at least t
-    -- installations hold and no other, once each, ascending.'
-    × ((s : Lent) (xs : List Bits) → Honest s xs → Accepted s → TheHeavyStrings s xs (listRead s))
+    -- installations hold and no other, once each, ascending.' So it is where every weight is one, as it is in every search that is not weighted.
+    × ((s : Lent) (xs : List Bits) (ws : List ℤ) → Honest s xs ws → EveryOne ws → Accepted s → TheHeavyStrings s xs (listRead s))
+    × ((s : Lent) (xs : List Bits) (ws : List ℤ) → Honest s xs ws → s .weighted ≡ false → EveryOne ws)
+    -- Document 02, [1]: 'the weighted list holds the strings of n bits all of whose non-empty prefixes have holders' weights adding to t or more.'
+    × ((s : Lent) (xs : List Bits) (ws : List ℤ) → Honest s xs ws → Accepted s → TheWeightedStrings s xs ws (listRead s))
     -- So does the list that both servers and combining leave when they are called in turn, unless a cause before 11 applies;
-    × ((s : Lent) (xs : List Bits) → Honest s xs → Passes s → TheHeavyStrings s xs (byCalls s .listed))
+    × ((s : Lent) (xs : List Bits) (ws : List ℤ) → Honest s xs ws → EveryOne ws → Passes s → TheHeavyStrings s xs (byCalls s .listed))
+    × ((s : Lent) (xs : List Bits) (ws : List ℤ) → Honest s xs ws → Passes s → TheWeightedStrings s xs ws (byCalls s .listed))
     -- and for any reports, honest or not, what they leave is the record and the list of an accepted search.
     × ((s : Lent) → Accepted s → (recordRead s ≡ heading (countedNumber s) ++ byCalls s .recorded) × (listRead s ≡ byCalls s .listed))
-    -- There are such searches: any strings and seeds have public shares with which they are honest, and an honest search that is ready is accepted.
-    × ((s : Lent) (xs : List Bits) (e : Expander) → Servable s xs e → Seeded s xs → (shares : List ℕ) × Honest (withShares s shares) xs)
-    × ((s : Lent) (xs : List Bits) (e : Expander) → Honest s xs → Ready s xs e → Accepted s)
+    -- There are such searches: any strings, weights and seeds have public shares with which they are honest, and an honest search that is ready is
+    -- accepted.
+    × ((s : Lent) (xs : List Bits) (ws : List ℤ) (e : Expander) → Servable s xs e → Seeded s xs ws → (shares : List ℕ) × Honest (withShares s shares) xs ws)
+    × ((s : Lent) (xs : List Bits) (ws : List ℤ) (e : Expander) → Honest s xs ws → Ready s xs e → Accepted s)
 
 -- ==== Demand 3
 
@@ -105,16 +120,28 @@ Demand3 =
     -- leave it whole if there is none.'
     ((t : ℕ) (xs : List Bits) (x : Bits) → CutTo t xs x (cut t xs x))
     -- 'For any two accepted searches of honest reports with equal string length and t, whatever the seeds, expander and number of reports of each,
-    -- the two records are alike in length and in every byte exactly when the two lists of cut strings are rearrangements of each other.'
-    × ((s u : Lent) (xs ys : List Bits) → Honest s xs → Honest u ys → s .n ≡ u .n → thresholdOf s ≡ thresholdOf u → Accepted s → Accepted u
+    -- the two records are alike in length and in every byte exactly when the two lists of cut strings are rearrangements of each other.' Document 02,
+    -- [1]: 'claimed only where every weight is one', and there whether or not either search is weighted.
+    × ((s u : Lent) (xs ys : List Bits) (ws vs : List ℤ) → Honest s xs ws → Honest u ys vs → EveryOne ws → EveryOne vs
+    → s .n ≡ u .n → thresholdOf s ≡ thresholdOf u → Accepted s → Accepted u
     → (recordRead s ≡ recordRead u) ↔ Rearranged (cutStrings s xs) (cutStrings u ys))
     -- 'This is all that two servers jointly learn from the totals': the record has each query followed by its totals (demand 2, called in turn), so the
     -- equivalence above speaks of all of them; and no record is empty,
     × ((s : Lent) → Accepted s
     → (rest : List ℕ) × (recordRead s ≡ heading (countedNumber s) ++ (firstQuery ++ (totals (total s) (children start) ++ rest))))
-    -- 'A candidate must be able to work it out by hand, so no random noise may be added to the totals': the total of a prefix is the number of
-    -- installations that hold it.
-    × ((s : Lent) (xs : List Bits) → Honest s xs → Accepted s → (q : Bits) → 1 ≤ length q → length q ≤ s .n → total s q ≡ count (countedStrings s xs) q)
+    -- 'A candidate must be able to work it out by hand, so no random noise may be added to the totals': where every weight is one the total of a prefix
+    -- is the number of installations that hold it, and with any weights it reads as the signed number that theirs add to.
+    × ((s : Lent) (xs : List Bits) (ws : List ℤ) → Honest s xs ws → EveryOne ws → Accepted s
+    → (q : Bits) → 1 ≤ length q → length q ≤ s .n → total s q ≡ count (countedStrings s xs) q)
+    × ((s : Lent) (xs : List Bits) (ws : List ℤ) → Honest s xs ws → Accepted s
+    → (q : Bits) → 1 ≤ length q → length q ≤ s .n → signedIn modulus (total s q) ≡ heldWeight (countedStrings s xs) (countedWeights s ws) q)
+    -- Document 01: 'the totals of two children add to their parent's', as signed numbers with any weights; 'the first two totals add to C, and a query
+    -- after the first has at most 2 × ⌊C ÷ t⌋ prefixes', where every weight is one.
+    × ((s : Lent) (xs : List Bits) (ws : List ℤ) → Honest s xs ws → Accepted s → (q : Bits) → 1 ≤ length q → length q < s .n
+    → signedIn modulus (total s (q ▹ false)) +ℤ signedIn modulus (total s (q ▹ true)) ≡ signedIn modulus (total s q))
+    × ((s : Lent) (xs : List Bits) (ws : List ℤ) → Honest s xs ws → EveryOne ws → Accepted s → total s (false ∷ []) + total s (true ∷ []) ≡ countedNumber s)
+    × ((s : Lent) (xs : List Bits) (ws : List ℤ) → Honest s xs ws → EveryOne ws → Accepted s → (k : ℕ) → 1 ≤ k → k < s .n
+    → length (children (keptAt s k)) ≤ 2 * (length (countedStrings s xs) / thresholdOf s))
 
 -- ==== What is assumed
 -- What `result` says of a call is what the contract of its function says: the `ensures` in `src`, which the checker proves of the code.

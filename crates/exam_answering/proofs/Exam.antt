@@ -3,7 +3,7 @@ use Prim.Native.Nat.{ℕ, _≤_, _<_}
 use native.Mathlib.Omega.{arith}
 use mathlib.Core.Path.{_≡_, refl, sym, ap, subst, _∙_}
 use mathlib.Core.Logic.{_≢_, inl, inr}
-use mathlib.Core.Bool.{not}
+use mathlib.Core.Bool.{false, not}
 use mathlib.Core.List.{List, [], _∷_}
 use borrow.Author.Tests.{ltb-false}
 use lib.ListN.{length}
@@ -25,7 +25,7 @@ use Rattle.exam_text.proofs.ReaderExact.{read-printed, text-injective, SheetOrN
 
 -- the causes of a sheet within its bounds
 abbrev pub sheetCauses : Sheet → ℕ → List Cause
-sheetCauses s room = lengthCause (s .n) ∷ thresholdCause (s .t) ∷ expanderCause (expanderNumber (s .expander)) ∷ spaceCause (length (answerText s)) room ∷ []
+sheetCauses s room = lengthCause (s .n) ∷ thresholdCause false (s .t) ∷ expanderCause (expanderNumber (s .expander)) ∷ spaceCause (length (answerText s)) room ∷ []
 
 -- The outcome for the text of a sheet within its bounds is that of the sheet.
 pub sheet-outcome : (s : Sheet) → Within s → (room : ℕ) → examOutcome (text s) room ≡ judged (sheetCauses s room) (answerText s)

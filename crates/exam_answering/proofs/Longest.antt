@@ -13,7 +13,7 @@ use Rattle.tree.specs.SearchRule.{start, searchList}
 use Rattle.places.proofs.Lists.{all-map}
 use Rattle.query.proofs.Children.{children-length, children-longer}
 use Rattle.tree.proofs.Kept.{Survives, list-length}
-use Rattle.tree.proofs.Totals.{count-le, heavy, Stands, stands-start, stands-kept, stands-few, kept-length}
+use Rattle.tree.proofs.Totals.{count-le, heavy, heavy-held, Stands, stands-start, stands-kept, stands-few, kept-length}
 use Rattle.exam_text.specs.Characters.{space, newline, binary, decimal}
 use Rattle.exam_text.specs.Sheet.{Sheet, strings, Within}
 use Rattle.exam_lines.specs.Lines.{prefixLine, heavyLine}
@@ -66,7 +66,7 @@ most-is = refl
 
 -- At most 32 strings of n bits, and a threshold of at least 1.
 module _ (n t : ℕ) (xs : List Bits) (all : OfLength n xs) (some : 1 ≤ t) (few : length xs ≤ 32) where
-  lines-most : (m k : ℕ) (ps : List Bits) → Stands t xs k ps → k + m ≤ n → length ps ≤ 32 → length (prefixLines (count xs) (queriedFrom (heavy t xs) m ps)) ≤ linesMost m k
+  lines-most : (m k : ℕ) (ps : List Bits) → Stands (heavy t xs) xs k ps → k + m ≤ n → length ps ≤ 32 → length (prefixLines (count xs) (queriedFrom (heavy t xs) m ps)) ≤ linesMost m k
   unfolding queriedFrom prefixLines linesMost
   lines-most zero k ps a l h = omega arith
   lines-most (suc m) k ps a l h =
@@ -75,8 +75,8 @@ module _ (n t : ℕ) (xs : List Bits) (all : OfLength n xs) (some : 1 ≤ t) (fe
       let below = queriedFrom (heavy t xs) m kept in
       let bits = children-longer k ps (all-map (Survives (heavy t xs) k) _ (λ p v. v .0) ps (a .0)) in
       let small : (q : Bits) → count xs q ≤ 32 = λ q. omega (arith, count-le xs q) in
-      let v = stands-kept n t xs all k ps a (omega arith) in
-      let less : length kept ≤ 32 = omega (arith, stands-few t xs some k kept v, div-le-self (length xs) t) in
+      let v = stands-kept (heavy t xs) t n xs all (heavy-held t xs n) k ps a (omega arith) in
+      let less : length kept ≤ 32 = omega (arith, stands-few (heavy t xs) t n xs all (heavy-held t xs n) some k (omega arith) kept v, div-le-self (length xs) t) in
       let wide : length qs ≤ 64 = omega (arith, children-length ps) in
       let same : suc k + 4 ≤ k + 5 = omega arith in
       omega (
@@ -105,7 +105,7 @@ answer-most s w some =
     omega (
       arith,
       length-append lines (heavyLines ss),
-      lines-most (s .n) (s .t) xs (w .n-bits) some few (s .n) 0 start (stands-start (s .t) xs) (omega arith) (omega arith),
+      lines-most (s .n) (s .t) xs (w .n-bits) some few (s .n) 0 start (stands-start (heavy (s .t) xs) xs) (omega arith) (omega arith),
       most-grows (s .n) 32 0 (w .n-most),
       most-is,
       heavy-lines-length (s .n) ss (list-length (reaches (s .t)) (count xs) (s .n)),

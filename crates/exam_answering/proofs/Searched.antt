@@ -5,6 +5,7 @@ use borrow.Author.Tests.{ltb-false, not-false}
 use lib.ListN.{replicate, length-replicate}
 use lib.Dec.{ltb}
 use Rattle.calls.proofs.Decisions.{neither}
+use Rattle.weights.proofs.Ones.{ones}
 use Rattle.honest.specs.Honest.{Accepted, Honest}
 use Rattle.exam_text.specs.Sheet.{Sheet, strings, text, Within}
 use Rattle.exam_answering.specs.Exam.{examOutcome}
@@ -13,9 +14,9 @@ use Rattle.exam_answering.proofs.Exam.{sheet-outcome, sheet-clear, shee
 use Rattle.exam_answering.proofs.SheetSearch.{sheet-honest, sheet-accepted, search-answer}
 
 -- The answer that is written to a sheet is what is printed of the record and the list of the search of its own reports, with its n, t and expander. They are
--- honest, made for its strings, and the search is accepted.
+-- honest, made for its strings with the weight one each, and the search is accepted.
 pub exam-searched : (s : Sheet) → Within s → (room : ℕ) → examOutcome (text s) room .number ≡ 0
-    → Honest (sheetSearch s (replicate 19374 0) (replicate 128 0)) (strings s) × Accepted (sheetSearch s (replicate 19374 0) (replicate 128 0))
+    → Honest (sheetSearch s (replicate 19374 0) (replicate 128 0)) (strings s) (ones (strings s)) × Accepted (sheetSearch s (replicate 19374 0) (replicate 128 0))
     × (examOutcome (text s) room .written ≡ searchText s)
 exam-searched s w room h =
     let clear = sheet-clear s w room (rw (sheet-outcome s w room) at h) in

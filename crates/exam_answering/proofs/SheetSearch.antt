@@ -3,9 +3,10 @@ use Prim.Native.Nat.{ℕ, _*_, _≤_, _<_}
 use native.Mathlib.Nat.{mul-le-mul-left}
 use native.Mathlib.Omega.{arith}
 use mathlib.Core.Path.{_≡_, refl, sym, ap, ap₂, _∙_}
-use mathlib.Core.Bool.{true}
+use mathlib.Core.Bool.{true, false}
 use mathlib.Core.List.{List, []}
 use lib.ListN.{length, getD, replicate, length-map, length-replicate, List·getD-map}
+use lib.IntN.{pos}
 use Rattle.places.specs.Places.{Bytes}
 use Rattle.bits.specs.Packing.{pack}
 use Rattle.expander.specs.Expander.{isExpander}
@@ -17,6 +18,7 @@ use Rattle.search.specs.Search.{Lent, lent}
 use Rattle.search.proofs.Outcome.{named-expander}
 use Rattle.honest.specs.Honest.{Accepted, recordRead, Honest, keyAt}
 use Rattle.honest.proofs.Making.{made-honest}
+use Rattle.weights.proofs.Ones.{ones, ones-length, ones-every, ones-weights, ones-at}
 use Rattle.exam_text.specs.Sheet.{Line, Sheet, strings, expanderNumber, Within}
 use Rattle.exam_text.specs.Reader.{noLine}
 use Rattle.exam_text.proofs.Records.{Rounds}
@@ -35,7 +37,7 @@ shares-room n count w size to few = let most : w * count ≤ w * 32 = mul-le-mul
 
 -- what is lent to a sheet's search
 pub same-lent : (s : Sheet) (n t e : ℕ) (a b c recordArea listArea : List ℕ) → n ≡ s .n → t ≡ s .t → e ≡ expanderNumber (s .expander) → a ≡ seeds0Of s → b ≡ seeds1Of s
-    → c ≡ publicSharesOf s → lent n t e a c b c recordArea listArea ≡ sheetSearch s recordArea listArea
+    → c ≡ publicSharesOf s → lent n false t e a c b c recordArea listArea ≡ sheetSearch s recordArea listArea
 same-lent s n t e a b c recordArea listArea p q r x y z = rw (p, q, r, x, y, z)
 
 -- ---- one seed of each line
@@ -64,34 +66,36 @@ module _ (s : Sheet) (w : Within s) (from : 1 ≤ s .n) (known : isExpander (exp
 
   -- the public share of line i is what the key maker writes for report i
   share-made : (i : ℕ) → i < length (s .lines)
-      → publicShareFor (s .n) (expanderNumber (s .expander)) (getD (s .lines) i noLine) ≡ keyAt search (getD (strings s) i []) i .written
+      → publicShareFor (s .n) (expanderNumber (s .expander)) (getD (s .lines) i noLine) ≡ keyAt search (getD (strings s) i []) (getD (ones (strings s)) i (pos 0)) i .written
   share-made i h =
       let e = expanderNumber (s .expander) in
       let seed0 = seed-at (λ l. l .seed0) (s .lines) (λ i h. line-sound s w i h .sized0) i h in
       let seed1 = seed-at (λ l. l .seed1) (s .lines) (λ i h. line-sound s w i h .sized1) i h in
-      ap₂ (λ (a b : List ℕ). keyOutcome (s .n) e (pack (getD (s .lines) i noLine .string)) a b (publicShareLength (s .n)) .written) (sym seed0) (sym seed1)
-      ∙ ap (λ x. keyAt search x i .written) (sym (List·getD-map (λ (l : Line). l .string) (s .lines) i noLine))
+      ap₂ (λ (a b : List ℕ). keyOutcome (s .n) e (pos 1) (pack (getD (s .lines) i noLine .string)) a b (publicShareLength (s .n)) .written) (sym seed0) (sym seed1)
+      ∙ ap₂ (λ x v. keyAt search x v i .written) (sym (List·getD-map (λ (l : Line). l .string) (s .lines) i noLine))
+      (sym (ones-at (strings s) i (omega (arith, h, number))))
 
-  shares-made : publicSharesOf s ≡ joined (length (strings s)) (λ i. keyAt search (getD (strings s) i []) i .written)
+  shares-made : publicSharesOf s ≡ joined (length (strings s)) (λ i. keyAt search (getD (strings s) i []) (getD (ones (strings s)) i (pos 0)) i .written)
   shares-made =
       each-joined (publicShareFor (s .n) (expanderNumber (s .expander))) (s .lines) noLine
       ∙ joined-same (length (s .lines)) (λ i. publicShareFor (s .n) (expanderNumber (s .expander)) (getD (s .lines) i noLine)) _ share-made
-      ∙ ap (λ (m : ℕ). joined m (λ i. keyAt search (getD (strings s) i []) i .written)) (sym number)
+      ∙ ap (λ (m : ℕ). joined m (λ i. keyAt search (getD (strings s) i []) (getD (ones (strings s)) i (pos 0)) i .written)) (sym number)
 
-  pub sheet-honest : Honest search (strings s)
+  pub sheet-honest : Honest search (strings s) (ones (strings s))
   sheet-honest =
       let named = named-expander (expanderNumber (s .expander)) known in
-      made-honest search (strings s) (w .n-bits) sized0 sized1 (named .0) (named .1) from (omega (arith, w .n-most)) shares-made shares-made
+      made-honest search (strings s) (ones (strings s)) (w .n-bits) sized0 sized1 (named .0) (named .1) from (omega (arith, w .n-most))
+      (ones-length (strings s)) (ones-weights (strings s)) (λ e. ones-every (strings s)) shares-made shares-made
 
   module _ (least : 1 ≤ s .t) (most : s .t ≤ 65535) (area : length recordArea ≡ 19374) (list : length listArea ≡ 128) where
     pub sheet-accepted : Accepted search
-    sheet-accepted = exam-accepted search (strings s) sheet-honest from (w .n-most) least most known (omega (arith, number, w .lines-most)) area list
+    sheet-accepted = exam-accepted search (strings s) (ones (strings s)) sheet-honest refl from (w .n-most) least most known (omega (arith, number, w .lines-most)) area list
 
     pub sheet-printed : searchedText s recordArea listArea ≡ answerText s
-    sheet-printed = answer-printed search s sheet-honest refl refl sheet-accepted
+    sheet-printed = answer-printed search s (ones (strings s)) sheet-honest (ones-every (strings s)) refl refl sheet-accepted
 
     pub sheet-rounds : Rounds roundLength (s .n) (recordRead search)
-    sheet-rounds = answer-read search s sheet-honest refl refl sheet-accepted
+    sheet-rounds = answer-read search s (ones (strings s)) sheet-honest (ones-every (strings s)) refl refl sheet-accepted
 
 -- In the exam's own areas.
 pub search-answer : (s : Sheet) → Within s → 1 ≤ s .n → isExpander (expanderNumber (s .expander)) ≡ true → 1 ≤ s .t → s .t ≤ 65535 → searchText s ≡ answerText s

@@ -1,5 +1,6 @@
 -- The search of a sheet's own reports, and what is printed of it: document 01, 'Exam program'.
 use Prim.Native.Nat.{ℕ}
+use mathlib.Core.Bool.{false}
 use mathlib.Core.List.{List}
 use lib.ListN.{replicate}
 use Rattle.search.specs.Search.{Lent, lent}
@@ -8,10 +9,10 @@ use Rattle.exam_text.specs.Sheet.{Sheet, expanderNumber}
 use Rattle.exam_reports.specs.SheetReports.{seeds0Of, seeds1Of, publicSharesOf}
 use Rattle.exam_answering.specs.Printing.{printed}
 
--- the search with the sheet's n, t and expander, and its reports; both servers are lent the same public shares
+-- the search with the sheet's n, t and expander, not weighted, and its reports; both servers are lent the same public shares
 abbrev pub sheetSearch : Sheet → List ℕ → List ℕ → Lent
 sheetSearch s recordArea listArea =
-    lent (s .n) (s .t) (expanderNumber (s .expander)) (seeds0Of s) (publicSharesOf s) (seeds1Of s) (publicSharesOf s) recordArea listArea
+    lent (s .n) false (s .t) (expanderNumber (s .expander)) (seeds0Of s) (publicSharesOf s) (seeds1Of s) (publicSharesOf s) recordArea listArea
 
 -- what is printed of its record and its list
 abbrev pub searchedText : Sheet → List ℕ → List ℕ → List ℕ

@@ -27,7 +27,7 @@ pub fn answer(text: &[u8], out: &mut [u8]) -> Reply
     let expander = sheet.expander;
     let is_sheet = sheet.is_sheet;
     let no_bits = n < 1;
-    let outside = calls::threshold_outside(t);
+    let outside = calls::threshold_outside(false, t);
     let known = expander::is_expander(expander);
     if !is_sheet {
         return refusal(10);

@@ -5,7 +5,7 @@ use exam_lines::write_text;
 use exam_reports::make_reports;
 use nodes::public_share_length;
 ghost use mathlib.Core.Path.{_≡_};
-ghost use mathlib.Core.Bool.{true};
+ghost use mathlib.Core.Bool.{true, false};
 ghost use Prim.Native.Nat.{_≤_};
 ghost use lib.ListN.{length};
 ghost use Rattle.places.specs.Places.{overlay};
@@ -33,19 +33,20 @@ fn search_printed(
     list: &mut [u8],
     out: &mut [u8],
 ) -> usize
-    requires { ⌜ (1 ≤ n) × (n ≤ 32) × Accepted (lent n t expander (now seeds0) (now shares) (now seeds1) (now shares) (now area) (now list)) ⌝ }
-    requires { ⌜ Rounds roundLength n (recordRead (lent n t expander (now seeds0) (now shares) (now seeds1) (now shares) (now area) (now list))) ⌝ }
-    requires { ⌜ length (printed n (recordRead (lent n t expander (now seeds0) (now shares) (now seeds1) (now shares) (now area) (now list)))
-        (listRead (lent n t expander (now seeds0) (now shares) (now seeds1) (now shares) (now area) (now list)))) ≤ length (now out) ⌝ }
-    ensures { λ r. ⌜ r ≡ length (printed n (recordRead (lent n t expander (now (seeds0 .entry)) (now (shares .entry)) (now (seeds1 .entry))
-        (now (shares .entry)) (now (area .entry)) (now (list .entry)))) (listRead (lent n t expander (now (seeds0 .entry)) (now (shares .entry))
+    requires { ⌜ (1 ≤ n) × (n ≤ 32) × Accepted (lent n false t expander (now seeds0) (now shares) (now seeds1) (now shares) (now area) (now list)) ⌝ }
+    requires { ⌜ Rounds roundLength n (recordRead (lent n false t expander (now seeds0) (now shares) (now seeds1) (now shares) (now area) (now list))) ⌝ }
+    requires { ⌜ length (printed n (recordRead (lent n false t expander (now seeds0) (now shares) (now seeds1) (now shares) (now area) (now list)))
+        (listRead (lent n false t expander (now seeds0) (now shares) (now seeds1) (now shares) (now area) (now list)))) ≤ length (now out) ⌝ }
+    ensures { λ r. ⌜ r ≡ length (printed n (recordRead (lent n false t expander (now (seeds0 .entry)) (now (shares .entry)) (now (seeds1 .entry))
+        (now (shares .entry)) (now (area .entry)) (now (list .entry)))) (listRead (lent n false t expander (now (seeds0 .entry)) (now (shares .entry))
         (now (seeds1 .entry)) (now (shares .entry)) (now (area .entry)) (now (list .entry))))) ⌝ }
-    ensures { λ _. ⌜ now (out .exit) ≡ overlay (printed n (recordRead (lent n t expander (now (seeds0 .entry)) (now (shares .entry)) (now (seeds1 .entry))
-        (now (shares .entry)) (now (area .entry)) (now (list .entry)))) (listRead (lent n t expander (now (seeds0 .entry)) (now (shares .entry))
+    ensures { λ _. ⌜ now (out .exit) ≡ overlay (printed n (recordRead (lent n false t expander (now (seeds0 .entry)) (now (shares .entry)) (now (seeds1 .entry))
+        (now (shares .entry)) (now (area .entry)) (now (list .entry)))) (listRead (lent n false t expander (now (seeds0 .entry)) (now (shares .entry))
         (now (seeds1 .entry)) (now (shares .entry)) (now (area .entry)) (now (list .entry))))) (now (out .entry)) ⌝ }
 {
     let found = search::search(
         n as u64,
+        false,
         t,
         expander,
         seeds0,

@@ -4,6 +4,7 @@ use mathlib.Core.Bool.{Bool, true, false, cond, _&&_}
 use mathlib.Core.List.{List, [], _∷_, _++_}
 use mathlib.Core.Option.{Option, none, some}
 use lib.ListN.{length}
+use lib.IntN.{pos}
 use lib.Dec.{leb}
 use Rattle.places.specs.Places.{overlay}
 use Rattle.bits.specs.Packing.{pack}
@@ -17,9 +18,9 @@ unfoldable pub eachLine : (Line → List ℕ) → List Line → List ℕ
 eachLine f [] = []
 eachLine f (l ∷ ls) = f l ++ eachLine f ls
 
--- the public share of a line: what the key maker writes for its string and its two root seeds, with n and the expander e
+-- the public share of a line: what the key maker writes for its string, with the weight 1, and its two root seeds, with n and the expander e
 abbrev pub publicShareFor : ℕ → ℕ → Line → List ℕ
-publicShareFor n e l = keyOutcome n e (pack (l .string)) (l .seed0) (l .seed1) (publicShareLength n) .written
+publicShareFor n e l = keyOutcome n e (pos 1) (pack (l .string)) (l .seed0) (l .seed1) (publicShareLength n) .written
 
 -- server 0's root seeds, server 1's, and the public shares, which are lent to both
 abbrev pub seeds0Of : Sheet → List ℕ

@@ -7,6 +7,7 @@ ghost use mathlib.Core.Path.{_≡_};
 ghost use mathlib.Core.Bool.{true};
 ghost use Prim.Native.Nat.{_+_, _*_, _≤_};
 ghost use lib.ListN.{length, drop};
+ghost use lib.IntN.{pos};
 ghost use Rattle.places.specs.Places.{putAt, overlay};
 ghost use Rattle.expander.specs.Expander.{isExpander};
 ghost use Rattle.point.specs.PublicShare.{publicShareLength};
@@ -14,7 +15,7 @@ ghost use Rattle.keymaker.specs.Key.{keyOutcome};
 ghost use Rattle.exam_text.specs.Reader.{areLines, linesOf, hasLine, lineAt};
 ghost use Rattle.exam_reports.specs.SheetReports.{eachLine, publicShareFor};
 
-// The public share of a packed string of n bits into the places from `at` on.
+// The public share of a packed string of n bits, with the weight 1, into the places from `at` on.
 fn write_key(
     n: u16,
     expander: u64,
@@ -24,15 +25,16 @@ fn write_key(
     shares: &mut [u8],
     at: usize,
 )
-    requires { ⌜ (at + publicShareLength n ≤ length (now shares)) × (length (keyOutcome n expander (now string) (now seed0) (now seed1)
+    requires { ⌜ (at + publicShareLength n ≤ length (now shares)) × (length (keyOutcome n expander (pos 1) (now string) (now seed0) (now seed1)
         (publicShareLength n) .written) ≡ publicShareLength n) ⌝ }
-    ensures { λ _. ⌜ now (shares .exit) ≡ putAt (now (shares .entry)) at (keyOutcome n expander (now (string .entry)) (now (seed0 .entry))
+    ensures { λ _. ⌜ now (shares .exit) ≡ putAt (now (shares .entry)) at (keyOutcome n expander (pos 1) (now (string .entry)) (now (seed0 .entry))
         (now (seed1 .entry)) (publicShareLength n) .written) ⌝ }
 {
     let end = at + public_share_length(n);
     keymaker::make_key(
         n as u64,
         expander,
+        1,
         string,
         seed0,
         seed1,

@@ -1,6 +1,6 @@
 -- The sheet of document 01: every row of the table holds.
 use mathlib.Core.Path.{_≡_, refl, ap, ap₂, _∙_}
-use mathlib.Core.Bool.{true, false, cond, xor}
+use mathlib.Core.Bool.{Bool, true, false, cond, xor}
 use mathlib.Core.List.{List, [], _∷_}
 use mathlib.Core.Option.{some}
 use Prim.Native.Nat.{ℕ, _≤_}
@@ -13,10 +13,11 @@ use Rattle.bits.specs.Strings.{Bits}
 use Rattle.numbers.specs.Numbers.{little, fromLittle, big, fromBig}
 use Rattle.bits.specs.Packing.{value, packIn, pack, digits, bitsOf, unpack, spareZero}
 use Rattle.places.specs.Places.{window, putAt}
-use Rattle.calls.specs.Bounds.{mostBits, mostThreshold, outside}
+use Rattle.calls.specs.Bounds.{mostBits, mostThreshold, thresholdMost, outside}
 use Rattle.calls.specs.Outcome.{accepted}
 use Rattle.calls.proofs.Judged.{_&_}
 use Rattle.expander.specs.Expander.{isExpander, classroomBlock, xorBytes}
+use Rattle.signed.specs.SignedReading.{embed}
 use Rattle.point.specs.Node.{controlBit, cleared, child, final, payloadOf}
 use Rattle.point.specs.Correction.{corrected, correctedChild}
 use Rattle.point.specs.Keys.{seedCorrection, leftCorrection, rightCorrection, keptChild, payloadCorrection, correction, keyNode, keyCorrection}
@@ -41,17 +42,17 @@ use Rattle.honest.proofs.Counted.{accepted-record, accepted-list}
 use Rattle.honest.proofs.Accepting.{listed-number}
 
 -- Naming `keys` on an `unfolding` line opens every definition that a key and a share run through.
-keys : Unit {0}
+unfoldable pub keys : Unit {0}
 unfolding xor xorBytes little fromLittle window classroomBlock controlBit cleared child final payloadOf corrected correctedChild seedCorrection leftCorrection rightCorrection keptChild payloadCorrection correction keyNode keyCorrection descend correctedPayload shareBelow node share joined lowestFirst levelBit controlByte levelBytes publicShare binaryDigit readCorrection every payloadsBelow spareBitsZero fieldScheme
 keys = tt
 
 -- Naming `calls` opens every definition that the calls and a query run through.
-calls : Unit {0}
-unfolding big fromBig value packIn pack digits bitsOf unpack spareZero putAt packs query parts sparesZero isAscending isQuery keyBytes keyOutcome sumWhere lentShare serverSum shareBytes shareOutcome
+unfoldable pub calls : Unit {0}
+unfolding big fromBig value packIn pack digits bitsOf unpack spareZero putAt packs query parts sparesZero isAscending isQuery keyBytes keyOutcome sumWhere lentShare serverSum shareBytes shareOutcome embed
 calls = tt
 
 -- Naming `records` opens every definition that a record, a list and a cut string run through.
-records : Unit {0}
+unfoldable pub records : Unit {0}
 unfolding searchRecord heading searchList cut
 records = tt
 
@@ -63,17 +64,22 @@ answers = tt
 -- A search row holds where the record and the list of its strings are those of the row.
 search-row : (n t : ℕ) (xs : List Bits) (bytes : List ℕ) (ss : List Bits) → honestRecord n t xs ≡ bytes → honestList n t xs ≡ ss
     → Holds (searchOf n t xs bytes ss)
-search-row n t xs bytes ss record-is list-is s honest bits threshold ok = (
-  accepted-record s xs honest ok ∙ ap₂ (λ (m u : ℕ). honestRecord m u xs) bits threshold ∙ record-is,
-  accepted-list s xs honest ok ∙ ap packs (ap₂ (λ (m u : ℕ). honestList m u xs) bits threshold ∙ list-is),
+search-row n t xs bytes ss record-is list-is s ws honest every bits threshold ok = (
+  accepted-record s xs ws honest ok every ∙ ap₂ (λ (m u : ℕ). honestRecord m u xs) bits threshold ∙ record-is,
+  accepted-list s xs ws honest ok every ∙ ap packs (ap₂ (λ (m u : ℕ). honestList m u xs) bits threshold ∙ list-is),
 )
 
 -- A number row holds where its number is 0 if the record of its strings has the room, and 11 if not.
 number-row : (n t : ℕ) (xs : List Bits) (room : ℕ) → 1 ≤ n → n ≤ 256 → 1 ≤ t → t ≤ 65535 → length xs ≤ 65535
     → Holds (numberWith n t xs room (cond (ltb room (length (honestRecord n t xs))) 11 0))
-number-row n t xs room from to least most few s honest bits threshold known area list =
-    listed-number s xs honest (rw bits from) (rw bits to) (rw threshold least) (rw threshold most) known few (rw (bits, threshold) list)
+number-row n t xs room from to least most few s ws honest every bits threshold known area list =
+    listed-number s xs ws honest (rw bits from) (rw bits to) (rw threshold least) (either (s .weighted) (rw threshold most)) known few every (rw (bits, threshold) list)
     ∙ ap₂ (λ (r m : ℕ). cond (ltb r m) 11 0) area (ap₂ (λ (m u : ℕ). length (honestRecord m u xs)) bits threshold)
+  where
+    -- a threshold within its bounds is also one of a weighted search
+    either : (b : Bool) {u : ℕ} → u ≤ mostThreshold → u ≤ thresholdMost b
+    either false h = h
+    either true h = omega arith
 
 -- An output row holds where n, t and the expander pass, and the answer to one sheet of these strings is that of the row.
 output-row : (d : Sheet) (bytes : List ℕ) → outside mostBits (d .n) ≡ false → outside mostThreshold (d .t) ≡ false → isExpander (expanderNumber (d .expander)) ≡ true

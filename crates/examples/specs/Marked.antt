@@ -5,6 +5,7 @@ use mathlib.Core.Bool.{Bool, true, false, cond}
 use mathlib.Core.List.{List, [], _∷_, _++_}
 use mathlib.Core.Option.{Option, some}
 use lib.ListN.{length, replicate}
+use lib.IntN.{ℤ, pos}
 use Rattle.bits.specs.Strings.{Bits}
 use Rattle.numbers.specs.Numbers.{little, fromLittle}
 use Rattle.bits.specs.Packing.{pack}
@@ -13,6 +14,7 @@ use Rattle.calls.specs.Outcome.{Outcome, accepted}
 use Rattle.expander.specs.Expander.{isExpander}
 use Rattle.group.specs.Modular.{modulus}
 use Rattle.point.specs.PublicShare.{publicShareLength, levelStart}
+use Rattle.weights.specs.Weights.{EveryOne}
 use Rattle.query.specs.Query.{packs, query}
 use Rattle.tree.specs.Cut.{cuts}
 use Rattle.tree.specs.Space.{listSpace}
@@ -23,7 +25,7 @@ use Rattle.honest.specs.Honest.{Accepted, recordRead, listRead, Honest}
 use Rattle.exam_text.specs.Sheet.{Sheet, strings, text, Within}
 use Rattle.exam_answering.specs.Exam.{output}
 
--- A key of the sheet: the number of its expander, its string and its root seeds.
+-- A key of the sheet, whose weight is one: the number of its expander, its string and its root seeds.
 pub record MarkedKey : Type 0 where
   pub expander : ℕ
   pub string : Bits
@@ -32,7 +34,7 @@ pub record MarkedKey : Type 0 where
 
 -- what the key maker answers
 abbrev pub madeOf : MarkedKey → Outcome
-madeOf k = keyOutcome (length (k .string)) (k .expander) (pack (k .string)) (k .seed0) (k .seed1) (publicShareLength (length (k .string)))
+madeOf k = keyOutcome (length (k .string)) (k .expander) (pos 1) (pack (k .string)) (k .seed0) (k .seed1) (publicShareLength (length (k .string)))
 
 -- what server b answers at the prefix q when it is lent its seed and a public share
 abbrev pub replyAt : MarkedKey → List ℕ → Bool → Bits → Outcome
@@ -52,10 +54,11 @@ pub data Row : Type 0 where
   totalAt : MarkedKey → Bits → ℕ → Row
   -- a key, a prefix, a payload correction in place of the first, and the number that both servers return
   payloadAt : MarkedKey → Bits → ℕ → ℕ → Row
-  -- n, t and strings, and the record and the list that every accepted search of honest reports for them leaves, whatever its seeds and expander
+  -- n, t and strings, and the record and the list that every accepted search of honest reports for them, every weight one, leaves, whatever its seeds
+  -- and expander, and weighted or not
   searchOf : ℕ → ℕ → List Bits → List ℕ → List Bits → Row
-  -- n, t and strings, how many bytes the record area has, and the number that every search of honest reports for them returns, where the list area
-  -- has the space that is named for an honest list and the expander is 1 or 2
+  -- n, t and strings, how many bytes the record area has, and the number that every search of honest reports for them, every weight one, returns, where
+  -- the list area has the space that is named for an honest list and the expander is 1 or 2
   numberWith : ℕ → ℕ → List Bits → ℕ → ℕ → Row
   -- t and strings, and their cut strings
   cutsOf : ℕ → List Bits → List Bits → Row
@@ -71,10 +74,11 @@ Holds (totalAt k q t) =
     let server : Bool → Outcome = λ b. replyAt k (madeOf k .written) b q in
     (server false .number ≡ 0) × (server true .number ≡ 0) × ((fromLittle (server false .written) + fromLittle (server true .written)) % modulus ≡ t)
 Holds (payloadAt k q x number) = (replyAt k (withPayload k x) false q .number ≡ number) × (replyAt k (withPayload k x) true q .number ≡ number)
-Holds (searchOf n t xs bytes ss) = (s : Lent) → Honest s xs → s .n ≡ n → thresholdOf s ≡ t → Accepted s → (recordRead s ≡ bytes) × (listRead s ≡ packs ss)
+Holds (searchOf n t xs bytes ss) =
+    (s : Lent) (ws : List ℤ) → Honest s xs ws → EveryOne ws → s .n ≡ n → thresholdOf s ≡ t → Accepted s → (recordRead s ≡ bytes) × (listRead s ≡ packs ss)
 Holds (numberWith n t xs room number) =
-    (s : Lent) → Honest s xs → s .n ≡ n → thresholdOf s ≡ t → isExpander (s .expander) ≡ true → length (s .recordArea) ≡ room → listSpace n t (length xs) ≤ length (s .listArea)
-    → searchNumber s ≡ number
+    (s : Lent) (ws : List ℤ) → Honest s xs ws → EveryOne ws → s .n ≡ n → thresholdOf s ≡ t → isExpander (s .expander) ≡ true
+    → length (s .recordArea) ≡ room → listSpace n t (length xs) ≤ length (s .listArea) → searchNumber s ≡ number
 Holds (cutsOf t xs ss) = cuts t xs ≡ ss
 Holds (outputOf n t e xs bytes) = (s : Sheet) → Within s → s .n ≡ n → s .t ≡ t → s .expander ≡ e → strings s ≡ xs → output (text s) ≡ bytes
 

@@ -6,6 +6,7 @@ use mathlib.Core.List.{List, [], _++_}
 use mathlib.Core.Logic.{_≢_}
 use mathlib.Core.Option.{none, some}
 use lib.ListN.{length, drop, replicate}
+use lib.IntN.{ℤ}
 use Rattle.bits.specs.Strings.{Bits}
 use Rattle.bits.specs.Packing.{packedLength}
 use Rattle.places.specs.Places.{overlay}
@@ -37,20 +38,20 @@ unchanged {area = area} h = ap (λ (bytes : List ℕ). overlay bytes area) h ∙
 
 -- ---- the key maker, with the space `area` for the public share
 
-module _ (n e : ℕ) (string seed0 seed1 area : List ℕ) where
+module _ (n e : ℕ) (w : ℤ) (string seed0 seed1 area : List ℕ) where
   abbrev key : Outcome
-  key = keyOutcome n e string seed0 seed1 (length area)
+  key = keyOutcome n e w string seed0 seed1 (length area)
 
   -- Its number is due, and no other is.
   pub key-number : Due (keyCauses n e string seed0 seed1 (length area)) (key .number)
       × ((k : ℕ) → Due (keyCauses n e string seed0 seed1 (length area)) k → k ≡ key .number)
   key-number =
-      let d = key-due n e string seed0 seed1 (length area) in
+      let d = key-due n e w string seed0 seed1 (length area) in
       (d, λ k h. due-unique (keyCauses n e string seed0 seed1 (length area)) h d)
 
   -- A refusal writes nothing, so that its length is 0, and leaves the space as it was.
   pub key-refused : key .number ≢ 0 → (key .written ≡ []) × (overlay (key .written) area ≡ area)
-  key-refused h = let none-written = nothing-written n e string seed0 seed1 (length area) h in (none-written, unchanged none-written)
+  key-refused h = let none-written = nothing-written n e w string seed0 seed1 (length area) h in (none-written, unchanged none-written)
 
   -- Where it succeeds with seeds of bytes, what it writes has the length of a public share and fits, and the bytes past it are as they were.
   pub key-written : AreBytes seed0 → AreBytes seed1 → key .number ≡ 0
@@ -58,7 +59,7 @@ module _ (n e : ℕ) (string seed0 seed1 area : List ℕ) where
       × (overlay (key .written) area ≡ key .written ++ drop (publicShareLength n) area)
   unfolding overlay
   key-written byte0 byte1 h =
-      let r = key-room n e string seed0 seed1 (length area) byte0 byte1 h in
+      let r = key-room n e w string seed0 seed1 (length area) byte0 byte1 h in
       (r .0, r .1, ap (λ (m : ℕ). key .written ++ drop m area) (r .0))
 
 -- ---- server b's share for a query, with the space `area` for its numbers
@@ -118,45 +119,45 @@ module _ (share0 share1 area : List ℕ) where
 
 -- ---- combining two shares for a query, with the space `area` for its answer
 
-module _ (n t : ℕ) (query share0 share1 area : List ℕ) where
+module _ (n : ℕ) (weighted : Bool) (t : ℕ) (query share0 share1 area : List ℕ) where
   abbrev combined : Outcome
-  combined = combineOutcome n t query share0 share1 (length area)
+  combined = combineOutcome n weighted t query share0 share1 (length area)
 
   -- Where the query is bytes, its number is due, and no other is.
   pub combine-number : AreBytes query
-      → Due (combineCauses n t query share0 share1 (length area)) (combined .number)
-      × ((k : ℕ) → Due (combineCauses n t query share0 share1 (length area)) k → k ≡ combined .number)
+      → Due (combineCauses n weighted t query share0 share1 (length area)) (combined .number)
+      × ((k : ℕ) → Due (combineCauses n weighted t query share0 share1 (length area)) k → k ≡ combined .number)
   combine-number query-byte =
-      let d = combine-due n t query share0 share1 (length area) query-byte in
-      (d, λ k h. due-unique (combineCauses n t query share0 share1 (length area)) h d)
+      let d = combine-due n weighted t query share0 share1 (length area) query-byte in
+      (d, λ k h. due-unique (combineCauses n weighted t query share0 share1 (length area)) h d)
 
   -- A refusal writes nothing, so that its length is 0, leaves the space as it was and names none of the three kinds of answer.
   pub combine-refused : combined .number ≢ 0
-      → (combined .written ≡ []) × (overlay (combined .written) area ≡ area) × (combineKind n t query share0 share1 (length area) ≡ none)
+      → (combined .written ≡ []) × (overlay (combined .written) area ≡ area) × (combineKind n weighted t query share0 share1 (length area) ≡ none)
   unfolding combineOutcome
   combine-refused h =
-      let none-written = judged-refused (combineCauses n t query share0 share1 (length area)) _ h in
-      (none-written, unchanged none-written, no-kind n t query share0 share1 (length area) h)
+      let none-written = judged-refused (combineCauses n weighted t query share0 share1 (length area)) _ h in
+      (none-written, unchanged none-written, no-kind n weighted t query share0 share1 (length area) h)
 
   -- Where it succeeds, it names the kind of its answer, what it writes are that answer's bytes and fits, and the bytes past it are as they were.
   pub combine-written : combined .number ≡ 0
-      → (combineKind n t query share0 share1 (length area) ≡ some (kind (combineAnswer n t query share0 share1)))
-      × (combined .written ≡ combineBytes n t query share0 share1) × (length (combined .written) ≤ length area)
+      → (combineKind n weighted t query share0 share1 (length area) ≡ some (kind (combineAnswer n weighted t query share0 share1)))
+      × (combined .written ≡ combineBytes n weighted t query share0 share1) × (length (combined .written) ≤ length area)
       × (overlay (combined .written) area ≡ combined .written ++ drop (length (combined .written)) area)
   unfolding overlay
   combine-written h =
-      let r = combine-room n t query share0 share1 (length area) h in
-      (told-kind n t query share0 share1 (length area) h, r .0, rw (r .0) (r .1), refl)
+      let r = combine-room n weighted t query share0 share1 (length area) h in
+      (told-kind n weighted t query share0 share1 (length area) h, r .0, rw (r .0) (r .1), refl)
 
   -- Where the query is bytes, a next query has 6 bytes and its prefixes one bit longer, a list its strings of n bits, each packed, and 'ended' nothing.
   pub combine-length : AreBytes query → combined .number ≡ 0
-      → ((qs : List Bits) → combineAnswer n t query share0 share1 ≡ next qs → length (combined .written) ≡ 6 + length qs * packedLength (suc (prefixLength query)))
-      × ((ss : List Bits) → combineAnswer n t query share0 share1 ≡ list ss → length (combined .written) ≡ length ss * packedLength n)
-      × (combineAnswer n t query share0 share1 ≡ ended → length (combined .written) ≡ 0)
+      → ((qs : List Bits) → combineAnswer n weighted t query share0 share1 ≡ next qs → length (combined .written) ≡ 6 + length qs * packedLength (suc (prefixLength query)))
+      × ((ss : List Bits) → combineAnswer n weighted t query share0 share1 ≡ list ss → length (combined .written) ≡ length ss * packedLength n)
+      × (combineAnswer n weighted t query share0 share1 ≡ ended → length (combined .written) ≡ 0)
   combine-length query-byte h = (
-    next-length n t query share0 share1 (length area) h query-byte,
-    list-length n t query share0 share1 (length area) h query-byte,
-    ended-length n t query share0 share1 (length area) h query-byte,
+    next-length n weighted t query share0 share1 (length area) h query-byte,
+    list-length n weighted t query share0 share1 (length area) h query-byte,
+    ended-length n weighted t query share0 share1 (length area) h query-byte,
   )
 
 -- ---- the whole search

@@ -1,13 +1,16 @@
 -- Demand 3: what the record of an accepted search tells, and what it consists of.
 use mathlib.Core.Path.{_≡_, sym, ap, ap₂, _∙_, subst}
+use mathlib.Core.Bool.{Bool}
 use mathlib.Core.Logic.{_↔_}
 use mathlib.Core.List.{List, _++_, append-assoc}
 use Prim.Native.Nat.{ℕ, _^_, _≤_, _<_}
 use native.Mathlib.Omega.{arith}
 use lib.ListN.{length}
+use lib.IntN.{ℤ}
 use Rattle.bits.specs.Strings.{Bits}
-use Rattle.kept.specs.Kept.{reaches}
+use Rattle.kept.specs.Kept.{reachesAs}
 use Rattle.point.specs.PublicShare.{joined}
+use Rattle.weights.specs.Weights.{EveryOne}
 use Rattle.query.specs.Query.{OfLength, packs, query, children}
 use Rattle.tree.specs.SearchRule.{start, totals, level, heading, searchRecord, searchList}
 use Rattle.tree.specs.Cut.{honestRecord, cuts, Rearranged}
@@ -20,32 +23,38 @@ use Rattle.honest.proofs.Reading.{record-read, record-whole, list-read,
 use Rattle.honest.proofs.SoundShares.{total-below}
 use Rattle.honest.proofs.Counted.{few-strings, accepted-record}
 
--- For any two accepted searches of honest reports with equal string length and threshold, whatever the seeds, the expander and the number of reports
--- of each, the records are equal in length and in every byte exactly when the two lists of cut strings are rearrangements of each other.
-pub records-alike : (s u : Lent) (xs ys : List Bits) → Honest s xs → Honest u ys → s .n ≡ u .n → thresholdOf s ≡ thresholdOf u → Accepted s → Accepted u
+-- For any two accepted searches of honest reports, every weight one, with equal string length and threshold, whatever the seeds, the expander and the
+-- number of reports of each, and whether or not either is weighted, the records are equal in length and in every byte exactly when the two lists of cut
+-- strings are rearrangements of each other.
+pub records-alike : (s u : Lent) (xs ys : List Bits) (ws vs : List ℤ) → Honest s xs ws → Honest u ys vs → EveryOne ws → EveryOne vs
+    → s .n ≡ u .n → thresholdOf s ≡ thresholdOf u → Accepted s → Accepted u
     → (recordRead s ≡ recordRead u) ↔ Rearranged (cuts (thresholdOf s) (countedStrings s xs)) (cuts (thresholdOf u) (countedStrings u ys))
-records-alike s u xs ys honest honest′ bits threshold ok ok′ =
+records-alike s u xs ys ws vs honest honest′ ones ones′ bits threshold ok ok′ =
     let n-bits : OfLength (s .n) ys = rw (← bits) at (honest′ .n-bits) in
     let records = records-tell-cuts (s .n) (thresholdOf s) xs ys (accepted-clear s ok .sound .some-bits) (honest .n-bits) n-bits
-    (few-strings s xs honest ok) (few-strings u ys honest′ ok′) in
-    let left = accepted-record s xs honest ok in
+    (few-strings s xs ws honest ok) (few-strings u ys vs honest′ ok′) in
+    let left = accepted-record s xs ws honest ok ones in
     let right : recordRead u ≡ honestRecord (s .n) (thresholdOf s) ys =
-    accepted-record u ys honest′ ok′ ∙ ap₂ (λ (n t : ℕ). honestRecord n t ys) (sym bits) (sym threshold) in
+    accepted-record u ys vs honest′ ok′ ones′ ∙ ap₂ (λ (n t : ℕ). honestRecord n t ys) (sym bits) (sym threshold) in
     subst (λ (t : ℕ). (recordRead s ≡ recordRead u) ↔ Rearranged (cuts (thresholdOf s) xs) (cuts t ys)) threshold
     (λ same. records .0 (sym left ∙ same ∙ right), λ cut. left ∙ records .1 cut ∙ sym right)
 
--- Whatever reports were lent, two accepted searches with equal string length, threshold and record have equal lists.
-pub records-lists : (s u : Lent) → s .n ≡ u .n → thresholdOf s ≡ thresholdOf u → Accepted s → Accepted u → recordRead s ≡ recordRead u → listRead s ≡ listRead u
+-- Whatever reports were lent, two accepted searches, both weighted or neither, with equal string length, threshold and record have equal lists.
+pub records-lists : (s u : Lent) → s .n ≡ u .n → s .weighted ≡ u .weighted → thresholdOf s ≡ thresholdOf u → Accepted s → Accepted u
+    → recordRead s ≡ recordRead u → listRead s ≡ listRead u
 unfolding recordBytes listBytes
-records-lists s u bits threshold ok ok′ same =
+records-lists s u bits weighted threshold ok ok′ same =
     let records : searchRecord (reachesOf s) (total s) (countedNumber s) (s .n) ≡ searchRecord (reachesOf s) (total u) (countedNumber u) (s .n) =
     sym (record-read s ok) ∙ same ∙ record-read u ok′
-    ∙ ap₂ (λ (n t : ℕ). searchRecord (reaches t) (total u) (countedNumber u) n) (sym bits) (sym threshold) in
+    ∙ ap₂ (λ (n : ℕ) (r : ℕ → Bool). searchRecord r (total u) (countedNumber u) n) (sym bits) (sym rule) in
     let lists : searchList (reachesOf s) (total s) (s .n) ≡ searchList (reachesOf u) (total u) (u .n) =
     records-tell-lists (reachesOf s) (total s) (total u) (small s) (small u) (countedNumber s) (countedNumber u) (s .n) records
-    ∙ ap₂ (λ (n t : ℕ). searchList (reaches t) (total u) n) bits threshold in
+    ∙ ap₂ (λ (n : ℕ) (r : ℕ → Bool). searchList r (total u) n) bits rule in
     list-read s ok ∙ ap packs lists ∙ sym (list-read u ok′)
   where
+    rule : reachesOf s ≡ reachesOf u
+    rule = ap₂ reachesAs weighted threshold
+
     small : (s : Lent) (q : Bits) → total s q < 256 ^ 8
     small s q = omega (arith, total-below s q)
 

@@ -16,4 +16,5 @@ pub mod Playing
 pub mod Loop
 pub mod Demand1
 pub mod Demand2
+pub mod Weighted
 pub mod Demand3

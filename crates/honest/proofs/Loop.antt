@@ -86,7 +86,7 @@ module _ (s : Lent) (passes : Passes s) where
         number-due
         (also {b = a || b} (either a b (ltb→lt room _) (passes-limit (answerFor s q))) (either-test a b (lt→ltb room _) (passes-limit-test (answerFor s q))) none) in
         rw (
-          judged-due (combineCauses (s .n) (thresholdOf s) q (shareFor s false q) (shareFor s true q) room) _,
+          judged-due (combineCauses (s .n) (s .weighted) (thresholdOf s) q (shareFor s false q) (shareFor s true q) room) _,
           rounds.round-number s (passing s passes) k short (keptAt s k) some few sized sorted room,
         ) d
 

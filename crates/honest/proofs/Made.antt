@@ -1,6 +1,5 @@
--- Honest reports as the theory has them, and what the servers are lent for them.
+-- Reports as the theory has them, and what the servers are lent for them.
 use Prim.Native.Nat.{ℕ, _<_}
-use mathlib.Core.Path.{_≡_}
 use mathlib.Core.Bool.{Bool}
 use mathlib.Core.List.{List, [], _∷_, _++_}
 use lib.ListN.{length}
@@ -12,10 +11,9 @@ use Rattle.point.specs.Totals.{Report, Made, rootSeed, reportPublicShare}
 use Rattle.point.specs.Instance.{scheme}
 use Rattle.report_sums.specs.Reports.{allCount, serverSum}
 
--- A report is honest in a search of n bits: its string has n bits, its root seeds 16 bytes each, and its weight is one.
-pub record HonestReport (n : ℕ) (r : Report ℕ) : Type 0 where
-  pub made : Made (λ x. x < p) n r
-  pub one : r .weight ≡ 1
+-- A report is made for a search of n bits: its string has n bits, its root seeds 16 bytes each, and its weight is a group number.
+abbrev pub MadeReport : ℕ → Report ℕ → Type 0
+MadeReport n r = Made (λ x. x < p) n r
 
 -- what f gives for each report, one after the other
 unfoldable pub oneByOne : (Report ℕ → List ℕ) → List (Report ℕ) → List ℕ

@@ -10,6 +10,7 @@ use lib.ListN.{length}
 use lib.Dec.{ltb}
 use Rattle.places.specs.Lists.{select}
 use Rattle.bits.specs.Strings.{Bits, Ascending}
+use Rattle.calls.specs.Bounds.{thresholdMost}
 use Rattle.calls.specs.Causes.{numberDue}
 use Rattle.calls.specs.Outcome.{accepted}
 use Rattle.calls.proofs.Decisions.{neither-test, in-bounds}
@@ -109,7 +110,7 @@ module _ (s : Lent) (sound : Sound s) where
         ∙ ap (λ (T : Bits → ℕ). map T (children ps)) sums-total
 
     -- What combining keeps is what the search rule keeps.
-    round-kept : keptPrefixes (s .t) q (shareFor s false q) (shareFor s true q) ≡ select (isKept (reachesOf s) (total s)) (children ps)
+    round-kept : keptPrefixes (s .weighted) (s .t) q (shareFor s false q) (shareFor s true q) ≡ select (isKept (reachesOf s) (total s)) (children ps)
     round-kept = ap₂ (kept (reachesOf s)) read round-totals ∙ kept-select (reachesOf s) (total s) (children ps)
 
     -- So its answer is the one due to those.
@@ -130,11 +131,11 @@ module _ (s : Lent) (sound : Sound s) where
     tooLarge room = ltb room (spaceFor s q) || passesLimit (answerFor s q)
 
     -- No other cause of combining applies.
-    pub round-number : (room : ℕ) → numberDue (combineCauses (s .n) (s .t) q (shareFor s false q) (shareFor s true q) room) ≡ cond (tooLarge room) 11 0
+    pub round-number : (room : ℕ) → numberDue (combineCauses (s .n) (s .weighted) (s .t) q (shareFor s false q) (shareFor s true q) room) ≡ cond (tooLarge room) 11 0
     round-number room =
         rw (
           in-bounds 256 (s .n) (sound .some-bits) (sound .not-longer),
-          in-bounds 65535 (s .t) (sound .some-threshold) (sound .not-higher),
+          in-bounds (thresholdMost (s .weighted)) (s .t) (sound .some-threshold) (sound .not-higher),
           right-shares,
           small false,
           small true,
@@ -145,6 +146,6 @@ module _ (s : Lent) (sound : Sound s) where
         → combineIn s room q ≡ accepted (answerBytes (prefixLength q) (answerFor s q))
     unfolding combineOutcome
     round-succeeds room h =
-        judged-accepted (combineCauses (s .n) (s .t) q (shareFor s false q) (shareFor s true q) room) _
-        (in-bounds 256 (s .n) (sound .some-bits) (sound .not-longer) & in-bounds 65535 (s .t) (sound .some-threshold) (sound .not-higher) & right-shares
+        judged-accepted (combineCauses (s .n) (s .weighted) (s .t) q (shareFor s false q) (shareFor s true q) room) _
+        (in-bounds 256 (s .n) (sound .some-bits) (sound .not-longer) & in-bounds (thresholdMost (s .weighted)) (s .t) (sound .some-threshold) (sound .not-higher) & right-shares
         & neither-test (small false) (small true) & ap not passes & h & tt)

@@ -35,7 +35,7 @@ use Rattle.query.proofs.Queries.{parts-length, prefix-at}
 use Rattle.report_sums.specs.Reports.{reportCount, publicShareAt, allCount, serverSum}
 use Rattle.report_sums.specs.Checks.{wrongLengths, payloadTooLarge, spareBitsSet}
 use Rattle.idpf.specs.Share.{shareCauses, shareBytes, shareOutcome}
-use Rattle.honest.proofs.Made.{HonestReport, lentSeeds, lentShares, sumAt}
+use Rattle.honest.proofs.Made.{MadeReport, lentSeeds, lentShares, sumAt}
 use Rattle.honest.proofs.Pieces.{all-at, all-from}
 use Rattle.honest.proofs.Keys.{key-passes}
 use Rattle.honest.proofs.Sums.{shares-length, shares-number, seeds-length, seeds-number, lent-count, lent-public}
@@ -65,37 +65,37 @@ query-prefixes n query asks =
 
 -- At most 65,535 honest reports in a search of 1 to 256 bits, and the number of its expander.
 module _ (e : Expander) (number : ℕ) (named : choiceOf number ≡ Known e) (n : ℕ) (from : 1 ≤ n) (to : n ≤ 256)
-    (rs : List (Report ℕ)) (honest : All (HonestReport n) rs) (few : length rs ≤ 65535) where
+    (rs : List (Report ℕ)) (made : All (MadeReport n) rs) (few : length rs ≤ 65535) where
   -- what server b is lent has the right lengths
   pub lent-lengths : (b : Bool) → wrongLengths n (lentSeeds b rs) (lentShares e n rs) ≡ false
   lent-lengths b =
-      let seeds : length (lentSeeds b rs) % 16 ≡ 0 = omega (arith, seeds-length e n from rs honest b) in
+      let seeds : length (lentSeeds b rs) % 16 ≡ 0 = omega (arith, seeds-length e n from rs made b) in
       let shares : length (lentShares e n rs) % publicShareLength n ≡ 0 =
-      ap (λ (l : ℕ). l % publicShareLength n) (shares-length e n from rs honest) ∙ mul-mod-right (publicShareLength n) (length rs) in
+      ap (λ (l : ℕ). l % publicShareLength n) (shares-length e n from rs made) ∙ mul-mod-right (publicShareLength n) (length rs) in
       neither-test (ap not (eq-eqb _ 0 seeds))
-      (neither-test (ap not (eq-eqb _ 0 shares)) (ap not (eq-eqb _ _ (seeds-number e n from rs honest b ∙ sym (shares-number e n from rs honest)))))
+      (neither-test (ap not (eq-eqb _ 0 shares)) (ap not (eq-eqb _ _ (seeds-number e n from rs made b ∙ sym (shares-number e n from rs made)))))
 
   -- a test that every report's public share passes, every lent one does
   lent-pass : (b : Bool) (test : List ℕ → Bool) → All (λ r. test (reportPublicShare (scheme e) n r) ≡ true) rs → (i : ℕ)
       → i < reportCount n (lentSeeds b rs) (lentShares e n rs) → test (publicShareAt n (lentShares e n rs) i) ≡ true
   lent-pass b test a i h =
       let d : Report ℕ = record { string = []; seed0 = []; seed1 = []; weight = 0 } in
-      let l : i < length rs = omega (arith, lent-count e n from rs honest b) in
-      ap test (lent-public e n from rs honest d i l) ∙ all-at (λ r. test (reportPublicShare (scheme e) n r) ≡ true) rs d i a l
+      let l : i < length rs = omega (arith, lent-count e n from rs made b) in
+      ap test (lent-public e n from rs made d i l) ∙ all-at (λ r. test (reportPublicShare (scheme e) n r) ≡ true) rs d i a l
 
   -- its payload corrections are below p, and its spare bits zero
   pub lent-payloads : (b : Bool) → payloadTooLarge n (lentSeeds b rs) (lentShares e n rs) ≡ false
-  lent-payloads b = ap not (every-true _ _ (lent-pass b (payloadsBelow p n) (all-map (HonestReport n) _ (λ r h. key-passes e n r h .1) rs honest)))
+  lent-payloads b = ap not (every-true _ _ (lent-pass b (payloadsBelow p n) (all-map (MadeReport n) _ (λ r h. key-passes e n r h .1) rs made)))
 
   pub lent-spares : (b : Bool) → spareBitsSet n (lentSeeds b rs) (lentShares e n rs) ≡ false
-  lent-spares b = ap not (every-true _ _ (lent-pass b (spareBitsZero n) (all-map (HonestReport n) _ (λ r h. key-passes e n r h .2) rs honest)))
+  lent-spares b = ap not (every-true _ _ (lent-pass b (spareBitsZero n) (all-map (MadeReport n) _ (λ r h. key-passes e n r h .2) rs made)))
 
   -- For a query and room for 8 bytes a prefix, server b succeeds and writes its sum at each prefix.
   share-accepted : (b : Bool) (query : List ℕ) → isQuery n query ≡ true → (room : ℕ) → 8 * prefixCount query ≤ room
       → shareOutcome n number b (lentSeeds b rs) (lentShares e n rs) query room ≡ accepted (inBytes (map (sumAt e n rs b) (prefixesOf query)))
   unfolding shareOutcome shareBytes
   share-accepted b query asks room fits =
-      let reports : length (lentSeeds b rs) / 16 ≤ mostReports = omega (arith, seeds-number e n from rs honest b) in
+      let reports : length (lentSeeds b rs) / 16 ≤ mostReports = omega (arith, seeds-number e n from rs made b) in
       judged-accepted (shareCauses n number (lentSeeds b rs) (lentShares e n rs) query room) _
       (in-bounds 256 n from to & ap not (known number e named) & lent-lengths b & le-ltb mostReports _ reports
       & lent-payloads b & lent-spares b & ap not asks & le-ltb room (8 * prefixCount query) fits & tt)

@@ -7,19 +7,19 @@ use native.Mathlib.Nat.{mul-div-right, min-eq-left}
 use native.Mathlib.Omega.{arith}
 use lib.ListN.{length, getD}
 use Rattle.places.specs.Lists.{All}
-use Rattle.bits.specs.Strings.{Bits, count}
+use Rattle.bits.specs.Strings.{Bits}
 use Rattle.group.specs.Modular.{p, field}
 use Rattle.group.proofs.Modular.{field-laws}
 use Rattle.expander.specs.declared.Expander.{Expander}
 use Rattle.point.specs.Evaluation.{bitOf, share}
 use Rattle.point.specs.PublicShare.{publicShareLength, readCorrection}
-use Rattle.point.specs.Totals.{Report, rootSeed, strings, sumOf, reportShare, serverTotal, reportsTotal, reportPublicShare}
+use Rattle.point.specs.Totals.{Report, rootSeed, sumOf, reportShare, serverTotal, reportsTotal, reportPublicShare}
 use Rattle.point.specs.Instance.{fieldScheme, scheme}
 use Rattle.point.proofs.Honest.{report-read}
-use Rattle.point.proofs.Instance.{scheme-lawful, p-fits, scheme-count}
+use Rattle.point.proofs.Instance.{scheme-lawful, p-fits}
 use Rattle.places.proofs.Lists.{all-map}
 use Rattle.report_sums.specs.Reports.{reportCount, seedAt, publicShareAt, allCount, sumWhere, lentShare, serverSum}
-use Rattle.honest.proofs.Made.{HonestReport, lentSeeds, lentShares, sumAt}
+use Rattle.honest.proofs.Made.{MadeReport, lentSeeds, lentShares, sumAt}
 use Rattle.honest.proofs.Pieces.{all-at, pieces-length, piece-at}
 use Rattle.honest.proofs.Keys.{key-passes}
 
@@ -40,9 +40,9 @@ sum-over f g (x ∷ xs) d h =
 
 -- ---- what is lent
 
-module _ (e : Expander) (n : ℕ) (from : 1 ≤ n) (rs : List (Report ℕ)) (honest : All (HonestReport n) rs) where
+module _ (e : Expander) (n : ℕ) (from : 1 ≤ n) (rs : List (Report ℕ)) (made : All (MadeReport n) rs) where
   shares-sized : All (λ r. length (reportPublicShare (scheme e) n r) ≡ publicShareLength n) rs
-  shares-sized = all-map (HonestReport n) (λ r. length (reportPublicShare (scheme e) n r) ≡ publicShareLength n) (λ r h. key-passes e n r h .0) rs honest
+  shares-sized = all-map (MadeReport n) (λ r. length (reportPublicShare (scheme e) n r) ≡ publicShareLength n) (λ r h. key-passes e n r h .0) rs made
 
   pub shares-length : length (lentShares e n rs) ≡ publicShareLength n * length rs
   shares-length = pieces-length (publicShareLength n) (reportPublicShare (scheme e) n) rs shares-sized
@@ -56,11 +56,11 @@ module _ (e : Expander) (n : ℕ) (from : 1 ≤ n) (rs : List (Report ℕ)) (hon
 
   module _ (b : Bool) where
     seeds-sized : All (λ r. length (rootSeed b r) ≡ 16) rs
-    seeds-sized = all-map (HonestReport n) (λ r. length (rootSeed b r) ≡ 16) (λ r h. go b r h) rs honest
+    seeds-sized = all-map (MadeReport n) (λ r. length (rootSeed b r) ≡ 16) (λ r h. go b r h) rs made
       where
-        go : (b : Bool) (r : Report ℕ) → HonestReport n r → length (rootSeed b r) ≡ 16
-        go false r h = h .made .sized0 .size
-        go true r h = h .made .sized1 .size
+        go : (b : Bool) (r : Report ℕ) → MadeReport n r → length (rootSeed b r) ≡ 16
+        go false r h = h .sized0 .size
+        go true r h = h .sized1 .size
 
     -- seed i that server b is lent is report i's own
     pub lent-seed : (d : Report ℕ) (i : ℕ) → i < length rs → seedAt (lentSeeds b rs) i ≡ rootSeed b (getD rs i d)
@@ -83,7 +83,7 @@ module _ (e : Expander) (n : ℕ) (from : 1 ≤ n) (rs : List (Report ℕ)) (hon
       unfolding lentShare
       lent-share d i h =
           ap₂ (λ (c : List ℕ) (s : List ℕ). share (scheme e) (readCorrection n c) s b (bitOf q) (length q)) (lent-public d i h) (lent-seed d i h)
-          ∙ report-read (scheme e) (scheme-lawful e) p-fits n (getD rs i d) (all-at (HonestReport n) rs d i honest h .made) b q fits
+          ∙ report-read (scheme e) (scheme-lawful e) p-fits n (getD rs i d) (all-at (MadeReport n) rs d i made h) b q fits
 
       -- Server b's sum over what it is lent is its total over the reports.
       pub sum-total : sumAt e n rs b q ≡ serverTotal (scheme e) b q rs
@@ -93,14 +93,7 @@ module _ (e : Expander) (n : ℕ) (from : 1 ≤ n) (rs : List (Report ℕ)) (hon
           ap (λ (m : ℕ). sumWhere field allCount m (lentShare e n b (lentSeeds b rs) (lentShares e n rs) (bitOf q) (length q))) lent-count
           ∙ sum-over (lentShare e n b (lentSeeds b rs) (lentShares e n rs) (bitOf q) (length q)) (reportShare (scheme e) b q) rs d (lent-share d)
 
-  -- Both servers' totals over at most 65,535 reports add modulo p to the number of strings that have the prefix.
-  pub totals-count : length rs ≤ 65535 → (q : Bits) → 0 < length q → length q ≤ n
-      → (serverTotal (scheme e) false q rs + serverTotal (scheme e) true q rs) % p ≡ count (strings rs) q
+  -- Both servers' sums over what they are lent add modulo p to the total over the reports.
+  pub sums-total : (q : Bits) → length q ≤ n → (sumAt e n rs false q + sumAt e n rs true q) % p ≡ reportsTotal (scheme e) q rs
   unfolding reportsTotal fieldScheme
-  totals-count few q some fits =
-      scheme-count e n q some fits rs
-      (all-map (HonestReport n) _ (λ r h. h .made) rs honest) (all-map (HonestReport n) _ (λ r h. h .one) rs honest) few
-
-  -- So do their sums over what they are lent.
-  pub sums-count : length rs ≤ 65535 → (q : Bits) → 0 < length q → length q ≤ n → (sumAt e n rs false q + sumAt e n rs true q) % p ≡ count (strings rs) q
-  sums-count few q some fits = ap₂ (λ (x y : ℕ). (x + y) % p) (sum-total false q fits) (sum-total true q fits) ∙ totals-count few q some fits
+  sums-total q fits = ap₂ (λ (x y : ℕ). (x + y) % p) (sum-total false q fits) (sum-total true q fits)

@@ -63,21 +63,21 @@ module _ (s : Lent) where
 
   -- what combining is to answer to both shares, and the space that this takes
   abbrev pub answerFor : List ℕ → Answer
-  answerFor q = combineAnswer (s .n) (thresholdOf s) q (shareFor false q) (shareFor true q)
+  answerFor q = combineAnswer (s .n) (s .weighted) (thresholdOf s) q (shareFor false q) (shareFor true q)
 
   abbrev pub spaceFor : List ℕ → ℕ
   spaceFor q = length (answerBytes (prefixLength q) (answerFor q))
 
   -- combining's outcome with `room` bytes of space, and the kind of its answer
   abbrev pub combineIn : ℕ → List ℕ → Outcome
-  combineIn room q = combineOutcome (s .n) (thresholdOf s) q (shareFor false q) (shareFor true q) room
+  combineIn room q = combineOutcome (s .n) (s .weighted) (thresholdOf s) q (shareFor false q) (shareFor true q) room
 
   abbrev pub kindIn : ℕ → List ℕ → Option Kind
-  kindIn room q = combineKind (s .n) (thresholdOf s) q (shareFor false q) (shareFor true q) room
+  kindIn room q = combineKind (s .n) (s .weighted) (thresholdOf s) q (shareFor false q) (shareFor true q) room
 
   -- the cause of combining that speaks of its space and of the limit
   abbrev pub spaceIn : ℕ → List ℕ → List Cause
-  spaceIn room q = spaceCauses (s .n) (thresholdOf s) q (shareFor false q) (shareFor true q) room
+  spaceIn room q = spaceCauses (s .n) (s .weighted) (thresholdOf s) q (shareFor false q) (shareFor true q) room
 
   -- ---- the rounds
 

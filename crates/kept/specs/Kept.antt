@@ -18,9 +18,13 @@ reaches t total = leb t total
 abbrev pub reachesSigned : ℕ → ℕ → Bool
 reachesSigned t total = leZ (pos t) (signedIn modulus total)
 
--- whether a total is kept by a rule
+-- whether a total is kept in a search with threshold t that is weighted or not
+abbrev pub reachesAs : Bool → ℕ → ℕ → Bool
+reachesAs weighted t = cond weighted (reachesSigned t) (reaches t)
+
+-- the same by a rule
 abbrev pub reachesBy : Rule → ℕ → Bool
-reachesBy rule = cond (rule .weighted) (reachesSigned (rule .t)) (reaches (rule .t))
+reachesBy rule = reachesAs (rule .weighted) (rule .t)
 
 -- the strings that are kept: those whose number passes the test
 abbrev pub kept : (ℕ → Bool) → List Bits → List ℕ → List Bits

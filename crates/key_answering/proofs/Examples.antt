@@ -6,6 +6,7 @@ use lib.ListN.{replicate}
 use Rattle.places.specs.Places.{window}
 use Rattle.numbers.specs.Numbers.{little, fromLittle}
 use Rattle.bits.specs.Packing.{value, packIn, pack, digits, bitsOf, unpack}
+use Rattle.signed.specs.SignedReading.{embed}
 use Rattle.expander.specs.Expander.{classroomBlock, xorBytes}
 use Rattle.expander.specs.declared.Expander.the-variants.{Classroom}
 use Rattle.point.specs.Node.{controlBit, cleared, child, final, payloadOf}
@@ -27,7 +28,7 @@ keys = tt
 
 -- opens those that print
 prints : Unit {0}
-unfolding value packIn pack digits bitsOf unpack keyBytes binary hexadecimal decimalIn controlLine correctionText levelLine sharesLine page linePage
+unfolding value packIn pack digits bitsOf unpack embed keyBytes binary hexadecimal decimalIn controlLine correctionText levelLine sharesLine page linePage
 prints = tt
 
 -- the line of A

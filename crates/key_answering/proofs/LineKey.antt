@@ -5,6 +5,7 @@ use mathlib.Core.Path.{_≡_, sym, ap, _∙_}
 use mathlib.Core.List.{List}
 use lib.ListN.{length, take, drop}
 use lib.Seq.{take-at}
+use lib.IntN.{pos}
 use Rattle.places.specs.Places.{overlay}
 use Rattle.bits.specs.Packing.{packedLength, packIn, pack, unpack}
 use Rattle.bits.proofs.Packed.{pack-length, unpack-pack}
@@ -36,21 +37,21 @@ module _ (n number : ℕ) (e : Expander) (from : 1 ≤ n) (to : n ≤ 32) (named
 
     -- The public share that was made, in an area of 776 bytes.
     module _ (seed0 seed1 area new : List ℕ) (first : seed0 ≡ l .seed0) (second : seed1 ≡ l .seed1) (room : length area ≡ 776)
-        (made : new ≡ keyExit n number (take w string) seed0 seed1 area .area) (m : ℕ) (long : m ≡ publicShareLength n) where
-      share-read : take m new ≡ keyBytes n (pack (l .string)) (l .seed0) (l .seed1) e
+        (made : new ≡ keyExit n number (pos 1) (take w string) seed0 seed1 area .area) (m : ℕ) (long : m ≡ publicShareLength n) where
+      share-read : take m new ≡ keyBytes n (pos 1) (pack (l .string)) (l .seed0) (l .seed1) e
       unfolding overlay
       share-read =
           let fits : publicShareLength n ≤ length area = omega arith in
-          let bytes = keyBytes n (pack (l .string)) (l .seed0) (l .seed1) e in
+          let bytes = keyBytes n (pos 1) (pack (l .string)) (l .seed0) (l .seed1) e in
           let is : new ≡ overlay bytes area =
           made
           ∙ rw (packed-read, first, second)
-          (ap (λ (o : Outcome). overlay (o .written) area) (key-made n number e named (l .string) (l .seed0) (l .seed1) (sound .bits) (sound .sized0) (sound .sized1) from (omega arith) (length area) fits)) in
+          (ap (λ (o : Outcome). overlay (o .written) area) (key-made n number e named (pos 1) (l .string) (l .seed0) (l .seed1) (sound .bits) (sound .sized0) (sound .sized1) from (omega arith) (length area) fits)) in
           ap (take m) is
-          ∙ take-at bytes (drop (length bytes) area) m (made-length n number e named (l .string) (l .seed0) (l .seed1) (sound .bits) (sound .sized0) (sound .sized1) ∙ sym long)
+          ∙ take-at bytes (drop (length bytes) area) m (made-length n number e named (pos 1) (l .string) (l .seed0) (l .seed1) (sound .bits) (sound .sized0) (sound .sized1) ∙ sym long)
 
       pub share-length : length (take m new) ≡ publicShareLength n
-      share-length = ap length share-read ∙ made-length n number e named (l .string) (l .seed0) (l .seed1) (sound .bits) (sound .sized0) (sound .sized1)
+      share-length = ap length share-read ∙ made-length n number e named (pos 1) (l .string) (l .seed0) (l .seed1) (sound .bits) (sound .sized0) (sound .sized1)
 
       -- Its page is that of the line.
       pub page-read : page e n (unpack n (take w string)) seed0 seed1 (take m new) ≡ linePage n l e
@@ -59,4 +60,4 @@ module _ (n number : ℕ) (e : Expander) (from : 1 ≤ n) (to : n ≤ 32) (named
 
   pub line-most : length (linePage n l e) ≤ pageSpace
   unfolding linePage
-  line-most = page-most e n (l .string) (l .seed0) (l .seed1) (keyBytes n (pack (l .string)) (l .seed0) (l .seed1) e) (sound .bits) to
+  line-most = page-most e n (l .string) (l .seed0) (l .seed1) (keyBytes n (pos 1) (pack (l .string)) (l .seed0) (l .seed1) e) (sound .bits) to

@@ -6,12 +6,14 @@ use mathlib.Core.Bool.{Bool, true, false, not, cond}
 use mathlib.Core.List.{List, [], _∷_, _++_}
 use lib.ListN.{length, take}
 use lib.Seq.{length-take-le}
+use lib.IntN.{pos}
 use Rattle.places.specs.Places.{Bytes}
 use Rattle.bits.specs.Strings.{Bits, _▹_, isPrefix}
 use Rattle.bits.specs.Packing.{pack, unpack}
 use Rattle.bits.proofs.Packed.{unpack-pack}
 use Rattle.bits.proofs.Append.{append-length}
 use Rattle.group.specs.Modular.{field, modulus}
+use Rattle.signed.specs.SignedReading.{embed}
 use Rattle.expander.specs.declared.Expander.{Expander}
 use Rattle.point.specs.Keys.{keyCorrection}
 use Rattle.point.specs.Evaluation.{bitOf, shareAt}
@@ -48,7 +50,7 @@ other-prefix (false ∷ s) (suc k) h = other-prefix s k (omega arith)
 module _ (e : Expander) (n : ℕ) (s : Bits) (seed0 seed1 : List ℕ) (bits : length s ≡ n) (sized0 : Bytes 16 seed0) (sized1 : Bytes 16 seed1) where
   -- server b's share, as a page has it
   abbrev pub printedShare : Bool → Bits → ℕ
-  printedShare b q = shareAt (scheme e) (readCorrection n (keyBytes n (pack s) seed0 seed1 e)) (cond b seed1 seed0) b q
+  printedShare b q = shareAt (scheme e) (readCorrection n (keyBytes n (pos 1) (pack s) seed0 seed1 e)) (cond b seed1 seed0) b q
 
   r : Report ℕ
   r = record { string = s; seed0 = seed0; seed1 = seed1; weight = 1 }
@@ -57,8 +59,8 @@ module _ (e : Expander) (n : ℕ) (s : Bits) (seed0 seed1 : List ℕ) (bits : le
   unfolding r
   made = record { bits = bits; in-group = omega arith; sized0 = sized0; sized1 = sized1 }
 
-  key-share : keyBytes n (pack s) seed0 seed1 e ≡ reportPublicShare (scheme e) n r
-  unfolding keyBytes reportPublicShare reportCorrection r
+  key-share : keyBytes n (pos 1) (pack s) seed0 seed1 e ≡ reportPublicShare (scheme e) n r
+  unfolding embed keyBytes reportPublicShare reportCorrection r
   key-share =
       ap (λ (x : Bits). publicShare n (keyCorrection (scheme e) 1 (bitOf x) seed0 seed1)) (ap (λ (m : ℕ). unpack m (pack s)) (sym bits) ∙ unpack-pack s)
 
@@ -92,7 +94,7 @@ module _ (e : Expander) (n : ℕ) (s : Bits) (seed0 seed1 : List ℕ) (bits : le
 
   -- Of the two lines of a page for each bit of the string, the first ends with 1 and the second with 0.
   pub path-lines : (k : ℕ) → k < n
-      → pathLines e n s seed0 seed1 (keyBytes n (pack s) seed0 seed1 e) k
+      → pathLines e n s seed0 seed1 (keyBytes n (pos 1) (pack s) seed0 seed1 e) k
       ≡ lineEndingWith 1 prefixWord (take k s ▹ bitOf s k) ++ lineEndingWith 0 besideWord (take k s ▹ not (bitOf s k))
   unfolding sharesLine
   path-lines k h =

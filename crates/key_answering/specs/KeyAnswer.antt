@@ -5,6 +5,7 @@ use mathlib.Core.Bool.{Bool, true, false, not}
 use mathlib.Core.List.{List, [], _∷_}
 use mathlib.Core.Logic.{_≢_}
 use mathlib.Core.Option.{Option, none, some}
+use lib.IntN.{pos}
 use Rattle.bits.specs.Packing.{pack}
 use Rattle.calls.specs.Bounds.{mostBits, Outside, outside}
 use Rattle.calls.specs.Causes.{Cause, cause}
@@ -39,9 +40,9 @@ keyLineCauses bytes =
     ∷ cause 3 (KeyLineWith bytes (λ k. (k .expander ≢ 1) × (k .expander ≢ 2))) (keyWith read (λ k. not (isExpander (k .expander))))
     ∷ []
 
--- the page of a line for strings of n bits: its public share is what the key maker makes of its string and its two root seeds
+-- the page of a line for strings of n bits: its public share is what the key maker makes of its string, with the weight 1, and its two root seeds
 unfoldable pub linePage : ℕ → Line → Expander → List ℕ
-linePage n l e = page e n (l .string) (l .seed0) (l .seed1) (keyBytes n (pack (l .string)) (l .seed0) (l .seed1) e)
+linePage n l e = page e n (l .string) (l .seed0) (l .seed1) (keyBytes n (pos 1) (pack (l .string)) (l .seed0) (l .seed1) e)
 
 -- the page of what was read
 abbrev pub pageRead : Option KeyLine → List ℕ

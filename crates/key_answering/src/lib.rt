@@ -26,7 +26,7 @@ ghost use Rattle.key_answering.specs.KeyAnswer.{linePage, respondOutcome
 mod lines;
 mod page;
 
-// Makes the public share of the line at a place of a text, under an expander and its number, and writes its page into the beginning of `out`.
+// Makes the public share of the line at a place of a text, with the weight 1, under an expander and its number, and writes its page into the beginning of `out`.
 fn print_line(
     text: &[u8],
     place: usize,
@@ -47,7 +47,7 @@ fn print_line(
     let seed1 = line.seed1;
     let end = packed_length(n as usize);
     let packed = &string[..end];
-    keymaker::make_key(n as u64, number, packed, &seed0, &seed1, share);
+    keymaker::make_key(n as u64, number, 1, packed, &seed0, &seed1, share);
     let size = public_share_length(n);
     write_page(e, n, packed, seed0, seed1, &share[..size], out)
 }

@@ -8,6 +8,7 @@ use native.Mathlib.Omega.{arith}
 use borrow.Author.Tests.{eqb-true, ltb-false, not-false}
 use lib.ListN.{length}
 use lib.Dec.{eqb}
+use lib.IntN.{ℤ}
 use Rattle.bits.specs.Packing.{packedLength, spareZero}
 use Rattle.calls.specs.Bounds.{mostBits}
 use Rattle.calls.specs.Causes.{numberDue}
@@ -21,16 +22,16 @@ use Rattle.expander.specs.declared.Choice.the-variants.{Known}
 use Rattle.point.specs.PublicShare.{publicShareLength}
 use Rattle.keymaker.specs.Key.{keyCauses, keyBytes, keyOutcome}
 
-module _ (n e : ℕ) (string seed0 seed1 : List ℕ) (room : ℕ) where
+module _ (n e : ℕ) (w : ℤ) (string seed0 seed1 : List ℕ) (room : ℕ) where
   -- what is written where none applies
   abbrev bytes : List ℕ
-  bytes = under (choiceOf e) (keyBytes n string seed0 seed1)
+  bytes = under (choiceOf e) (keyBytes n w string seed0 seed1)
 
-  pub due-number : keyOutcome n e string seed0 seed1 room .number ≡ numberDue (keyCauses n e string seed0 seed1 room)
+  pub due-number : keyOutcome n e w string seed0 seed1 room .number ≡ numberDue (keyCauses n e string seed0 seed1 room)
   unfolding keyOutcome
   due-number = judged-due (keyCauses n e string seed0 seed1 room) bytes
 
-  pub nothing-written : keyOutcome n e string seed0 seed1 room .number ≢ 0 → keyOutcome n e string seed0 seed1 room .written ≡ []
+  pub nothing-written : keyOutcome n e w string seed0 seed1 room .number ≢ 0 → keyOutcome n e w string seed0 seed1 room .written ≡ []
   unfolding keyOutcome
   nothing-written h = judged-refused (keyCauses n e string seed0 seed1 room) bytes h
 
@@ -44,9 +45,9 @@ module _ (n e : ℕ) (string seed0 seed1 : List ℕ) (room : ℕ) where
     pub seed1-length : length seed1 ≡ 16
     pub spare : spareZero n string ≡ true
     pub fits : publicShareLength n ≤ room
-    pub outcome : keyOutcome n e string seed0 seed1 room ≡ accepted (under (choiceOf e) (keyBytes n string seed0 seed1))
+    pub outcome : keyOutcome n e w string seed0 seed1 room ≡ accepted (under (choiceOf e) (keyBytes n w string seed0 seed1))
 
-  pub ready : keyOutcome n e string seed0 seed1 room .number ≡ 0 → Ready
+  pub ready : keyOutcome n e w string seed0 seed1 room .number ≡ 0 → Ready
   unfolding keyOutcome
   ready h =
       let t = judged-clear (keyCauses n e string seed0 seed1 room) bytes (omega arith, (omega arith, (omega arith, (omega arith, (omega arith, tt))))) h in
@@ -66,5 +67,5 @@ module _ (n e : ℕ) (string seed0 seed1 : List ℕ) (room : ℕ) where
       }
 
   -- what is written under the expander that the number names
-  pub key-accepted : (x : Expander) → choiceOf e ≡ Known x → Ready → keyOutcome n e string seed0 seed1 room ≡ accepted (keyBytes n string seed0 seed1 x)
-  key-accepted x h r = r .outcome ∙ ap (λ (c : Choice). accepted (under c (keyBytes n string seed0 seed1))) h
+  pub key-accepted : (x : Expander) → choiceOf e ≡ Known x → Ready → keyOutcome n e w string seed0 seed1 room ≡ accepted (keyBytes n w string seed0 seed1 x)
+  key-accepted x h r = r .outcome ∙ ap (λ (c : Choice). accepted (under c (keyBytes n w string seed0 seed1))) h

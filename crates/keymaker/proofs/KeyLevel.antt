@@ -13,9 +13,9 @@ use Rattle.point.specs.Keys.{seedCorrection, leftCorrection, rightCorrection, k
 use Rattle.point.specs.Instance.{fieldScheme, scheme}
 use Rattle.nodes.proofs.Nodes.{differ-xor}
 
--- 1 − W0 + W1
-abbrev pub difference : ℕ → ℕ → ℕ
-difference w0 w1 = field .add (field .add 1 (field .neg w0)) w1
+-- w − W0 + W1
+abbrev pub difference : ℕ → ℕ → ℕ → ℕ
+difference w w0 w1 = field .add (field .add w (field .neg w0)) w1
 
 -- a correction word from its parts
 same-correction : {s s′ : List ℕ} {l l′ r r′ : Bool} {v v′ : ℕ} → s ≡ s′ → l ≡ l′ → r ≡ r′ → v ≡ v′ →
@@ -63,10 +63,10 @@ module _ (S : Scheme ℕ) (a : Bool) where
     kept-made n l r s x y h hl hr f g = cc (h, hl, hr, kept (n .seed) l r f g)
 
 -- the correction word of a level, from the kept children
-pub word-made : (e : Expander) (a : Bool) (n0 n1 : Node) {s : List ℕ} {l r b : Bool} {w0 w1 v : ℕ}
+pub word-made : (e : Expander) (w : ℕ) (a : Bool) (n0 n1 : Node) {s : List ℕ} {l r b : Bool} {w0 w1 v : ℕ}
     → s ≡ seedCorrection (scheme e) a n0 n1 → l ≡ leftCorrection (scheme e) a n0 n1 → r ≡ rightCorrection (scheme e) a n0 n1
     → w0 ≡ payloadOf (scheme e) (keptChild (scheme e) a n0 n1 n0) → w1 ≡ payloadOf (scheme e) (keptChild (scheme e) a n0 n1 n1)
-    → b ≡ keptChild (scheme e) a n0 n1 n1 .bit → v ≡ cond b (field .neg (difference w0 w1)) (difference w0 w1)
-    → _≡_ {A = Correction ℕ} (record { seed = s; left = l; right = r; payload = v }) (correction (scheme e) a n0 n1 1)
+    → b ≡ keptChild (scheme e) a n0 n1 n1 .bit → v ≡ cond b (field .neg (difference w w0 w1)) (difference w w0 w1)
+    → _≡_ {A = Correction ℕ} (record { seed = s; left = l; right = r; payload = v }) (correction (scheme e) a n0 n1 w)
 unfolding correction payloadCorrection fieldScheme
-word-made e a n0 n1 hs hl hr h0 h1 hb hv = same-correction hs hl hr (hv ∙ cc (h0, h1, hb))
+word-made e w a n0 n1 hs hl hr h0 h1 hb hv = same-correction hs hl hr (hv ∙ cc (h0, h1, hb))

@@ -1,4 +1,4 @@
--- The call `make_key`: document 01, 'Keys and nodes' and 'Public share'.
+-- The call `make_key`: document 01, 'Keys and nodes' and 'Public share'; its weight: document 02, [1].
 use Prim.Native.Nat.{ℕ, _≤_}
 use mathlib.Core.Path.{_≡_}
 use mathlib.Core.Bool.{true, false, not, _||_}
@@ -6,7 +6,10 @@ use mathlib.Core.List.{List, [], _∷_}
 use mathlib.Core.Logic.{_≢_, _⊎_}
 use lib.ListN.{length, getD}
 use lib.Dec.{eqb}
+use lib.IntN.{ℤ}
 use Rattle.bits.specs.Packing.{packedLength, bitsOf, unpack, spareZero}
+use Rattle.group.specs.Modular.{modulus}
+use Rattle.signed.specs.SignedReading.{embed}
 use Rattle.calls.specs.Bounds.{lengthCause, expanderCause, spaceCause}
 use Rattle.calls.specs.Causes.{Cause, cause}
 use Rattle.calls.specs.Outcome.{Outcome, judged, Exit, exit}
@@ -33,14 +36,14 @@ keyCauses n e string seed0 seed1 room =
     ∷ spaceCause (publicShareLength n) room
     ∷ []
 
--- the public share of the string with the weight 1
-unfoldable pub keyBytes : ℕ → List ℕ → List ℕ → List ℕ → Expander → List ℕ
-keyBytes n string seed0 seed1 e = publicShare n (keyCorrection (scheme e) 1 (bitOf (unpack n string)) seed0 seed1)
+-- the public share of the string with its weight w as a group number
+unfoldable pub keyBytes : ℕ → ℤ → List ℕ → List ℕ → List ℕ → Expander → List ℕ
+keyBytes n w string seed0 seed1 e = publicShare n (keyCorrection (scheme e) (embed modulus w) (bitOf (unpack n string)) seed0 seed1)
 
 -- the outcome
-unfoldable pub keyOutcome : ℕ → ℕ → List ℕ → List ℕ → List ℕ → ℕ → Outcome
-keyOutcome n e string seed0 seed1 room = judged (keyCauses n e string seed0 seed1 room) (under (choiceOf e) (keyBytes n string seed0 seed1))
+unfoldable pub keyOutcome : ℕ → ℕ → ℤ → List ℕ → List ℕ → List ℕ → ℕ → Outcome
+keyOutcome n e w string seed0 seed1 room = judged (keyCauses n e string seed0 seed1 room) (under (choiceOf e) (keyBytes n w string seed0 seed1))
 
 -- what the call returns, and the space that it is lent, at exit
-abbrev pub keyExit : ℕ → ℕ → List ℕ → List ℕ → List ℕ → List ℕ → Exit
-keyExit n e string seed0 seed1 area = exit (keyOutcome n e string seed0 seed1 (length area)) area
+abbrev pub keyExit : ℕ → ℕ → ℤ → List ℕ → List ℕ → List ℕ → List ℕ → Exit
+keyExit n e w string seed0 seed1 area = exit (keyOutcome n e w string seed0 seed1 (length area)) area

@@ -132,20 +132,20 @@ fn finish(e: Expander, m: Node) -> Drawn
     }
 }
 
-// 1 − W0 + W1, negated if the new t1 is 1.
-fn payload_correction(t1: bool, w0: u64, w1: u64) -> u64
-    ensures { λ r. ⌜ r ≡ cond t1 (field .neg (field .add (field .add 1 (field .neg w0)) w1)) (field .add (field .add 1 (field .neg w0)) w1) ⌝ }
+// w − W0 + W1, negated if the new t1 is 1, for the weight w.
+fn payload_correction(weight: u64, t1: bool, w0: u64, w1: u64) -> u64
+    ensures { λ r. ⌜ r ≡ cond t1 (field .neg (field .add (field .add weight (field .neg w0)) w1)) (field .add (field .add weight (field .neg w0)) w1) ⌝ }
 {
-    let d = group::add(group::add(1, group::negate(w0)), w1);
+    let d = group::add(group::add(weight, group::negate(w0)), w1);
     if t1 {
         return group::negate(d);
     }
     d
 }
 
-// The level at which the string's bit is a, with the weight 1.
-pub(crate) fn next_level(e: Expander, a: bool, nodes: Nodes) -> Level
-    ensures word { λ r. ⌜ correctionOf (r .word) ≡ correction (scheme e) a (nodeOf (nodes .node0)) (nodeOf (nodes .node1)) 1 ⌝ }
+// The level at which the string's bit is a, with a weight.
+pub(crate) fn next_level(e: Expander, weight: u64, a: bool, nodes: Nodes) -> Level
+    ensures word { λ r. ⌜ correctionOf (r .word) ≡ correction (scheme e) a (nodeOf (nodes .node0)) (nodeOf (nodes .node1)) weight ⌝ }
     ensures next { λ r. ⌜ (nodeOf (r .next .node0) ≡ final (scheme e) (keptChild (scheme e) a (nodeOf (nodes .node0)) (nodeOf (nodes .node1))
         (nodeOf (nodes .node0)))) × (nodeOf (r .next .node1) ≡ final (scheme e) (keptChild (scheme e) a (nodeOf (nodes .node0)) (nodeOf (nodes .node1))
         (nodeOf (nodes .node1)))) ⌝ }
@@ -155,7 +155,7 @@ pub(crate) fn next_level(e: Expander, a: bool, nodes: Nodes) -> Level
     let kept1 = kept.kept1;
     let drawn0 = finish(e, kept0);
     let drawn1 = finish(e, kept1);
-    let payload = payload_correction(kept1.bit, drawn0.payload, drawn1.payload);
+    let payload = payload_correction(weight, kept1.bit, drawn0.payload, drawn1.payload);
     let seed = kept.seed;
     let node0 = drawn0.node;
     let node1 = drawn1.node;

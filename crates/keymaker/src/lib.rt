@@ -1,4 +1,4 @@
-// The key maker: the public share of a string, from its two root seeds.
+// The key maker: the public share of a string with its weight, from its two root seeds.
 mod level;
 
 use crate::level::Nodes;
@@ -16,6 +16,7 @@ use nodes::public_share_length;
 use numbers::write_le8;
 use places::read16;
 use places::write16;
+use signed::from_signed;
 ghost use mathlib.Core.Path.{_≡_};
 ghost use mathlib.Core.Bool.{not, _||_};
 ghost use Prim.Native.Nat.{_+_, _*_, _/_, _%_, _^_, _≤_, _<_};
@@ -23,12 +24,15 @@ ghost use lib.ListN.{length, getD, set};
 ghost use lib.Dec.{eqb};
 ghost use Rattle.places.specs.Lists.{digit};
 ghost use Rattle.places.specs.Places.{Bytes, putAt, overlay};
-ghost use Rattle.bits.specs.Packing.{packedLength};
+ghost use Rattle.bits.specs.Packing.{packedLength, unpack};
 ghost use Rattle.calls.specs.Causes.{numberDue};
 ghost use Rattle.calls.specs.Outcome.{left};
-ghost use Rattle.point.specs.PublicShare.{levelBytes, publicShareLength};
+ghost use Rattle.point.specs.Keys.{keyCorrection};
+ghost use Rattle.point.specs.Evaluation.{bitOf};
+ghost use Rattle.point.specs.PublicShare.{levelBytes, publicShare, publicShareLength};
+ghost use Rattle.point.specs.Instance.{scheme};
 ghost use Rattle.nodes.specs.NodeLayout.{correctionOf};
-ghost use Rattle.keymaker.specs.Key.{keyCauses, keyBytes, keyExit};
+ghost use Rattle.keymaker.specs.Key.{keyCauses, keyExit};
 
 // A bit as a number.
 fn bit(b: bool) -> u64
@@ -37,8 +41,8 @@ fn bit(b: bool) -> u64
     if b { 1 } else { 0 }
 }
 
-// The weight of the first control bit of level k within its byte.
-fn weight(k: u16) -> u64
+// The place value of the first control bit of level k within its byte.
+fn place_value(k: u16) -> u64
     ensures { λ r. ⌜ (r ≡ 2 ^ (2 * (k % 4))) × (0 < r) × (r ≤ 64) ⌝ }
 {
     1 << (2 * (k % 4))
@@ -48,7 +52,7 @@ fn weight(k: u16) -> u64
 fn control_byte(old: u8, k: u16, left: bool, right: bool) -> u8
     ensures { λ r. ⌜ r ≡ old % 2 ^ (2 * (k % 4)) + (digit left + 2 * digit right) * 2 ^ (2 * (k % 4)) ⌝ }
 {
-    let w = weight(k);
+    let w = place_value(k);
     let both = bit(left) + 2 * bit(right);
     ((old as u64) % w + both * w) as u8
 }
@@ -74,10 +78,19 @@ fn put_word(out: &mut [u8], at: usize, word: Correction)
     write_le8(out, payload_at, word.payload);
 }
 
-// The public share of the string into the beginning of `out`.
-fn write_key(e: Expander, n: u16, string: &[u8], seed0: [u8; 16], seed1: [u8; 16], out: &mut [u8])
+// The public share of the string, with its weight as a group number, into the beginning of `out`.
+fn write_key(
+    e: Expander,
+    n: u16,
+    weight: u64,
+    string: &[u8],
+    seed0: [u8; 16],
+    seed1: [u8; 16],
+    out: &mut [u8],
+)
     requires { ⌜ (publicShareLength n ≤ length (now out)) × Bytes 16 seed0 × Bytes 16 seed1 ⌝ }
-    ensures { λ _. ⌜ now (out .exit) ≡ overlay (keyBytes n (now (string .entry)) seed0 seed1 e) (now (out .entry)) ⌝ }
+    ensures { λ _. ⌜ now (out .exit) ≡ overlay (publicShare n (keyCorrection (scheme e) weight (bitOf (unpack n (now (string .entry)))) seed0 seed1))
+        (now (out .entry)) ⌝ }
 {
     let mut nodes = Nodes {
         node0: Node {
@@ -91,7 +104,7 @@ fn write_key(e: Expander, n: u16, string: &[u8], seed0: [u8; 16], seed1: [u8; 16
     };
     let mut k: u16 = 0;
     while k < n {
-        let level = next_level(e, bit_at(string, k as usize), nodes);
+        let level = next_level(e, weight, bit_at(string, k as usize), nodes);
         let word = level.word;
         put_control(out, k, word.left, word.right);
         put_word(out, level_start(n, k), word);
@@ -140,16 +153,17 @@ fn key_cause(n: u64, expander: u64, string: &[u8], seed0: &[u8], seed1: &[u8], r
     0
 }
 
-// Writes the public share of a string of n bits; refuses with 1, 3, 4, 7 or 11.
+// Writes the public share of a string of n bits with a weight; refuses with 1, 3, 4, 7 or 11.
 pub fn make_key(
     n: u64,
     expander: u64,
+    weight: i16,
     string: &[u8],
     seed0: &[u8],
     seed1: &[u8],
     out: &mut [u8],
 ) -> Reply
-    ensures { λ r. ⌜ left r (now (out .exit)) ≡ keyExit n expander (now (string .entry)) (now (seed0 .entry)) (now (seed1 .entry)) (now (out .entry)) ⌝ }
+    ensures { λ r. ⌜ left r (now (out .exit)) ≡ keyExit n expander weight (now (string .entry)) (now (seed0 .entry)) (now (seed1 .entry)) (now (out .entry)) ⌝ }
 {
     let number = key_cause(n, expander, string, seed0, seed1, out.len());
     if number != 0 {
@@ -158,7 +172,15 @@ pub fn make_key(
     match expander::choose(expander) {
         Choice::Known(e) => {
             let levels = n as u16;
-            write_key(e, levels, string, read16(seed0, 0), read16(seed1, 0), out);
+            write_key(
+                e,
+                levels,
+                from_signed(weight),
+                string,
+                read16(seed0, 0),
+                read16(seed1, 0),
+                out,
+            );
             Reply {
                 number: 0,
                 length: public_share_length(levels) as u64,

@@ -3,7 +3,6 @@ pub mod Correct
 pub mod Local
 pub mod Prefix
 pub mod Totals
-pub mod Count
 pub mod Joined
 pub mod PublicShare
 pub mod Honest

@@ -10,7 +10,7 @@ use Rattle.bits.specs.Strings.{Bits}
 use Rattle.calls.specs.Bounds.{mostBits}
 use Rattle.calls.specs.Causes.{Cause, numberDue}
 use Rattle.calls.proofs.Decisions.{bounds}
-use Rattle.calls.proofs.Judged.{Clear, first-due, second-due, number-clear, _&_}
+use Rattle.calls.proofs.Judged.{Clear, first-due, second-due, number-clear, threshold-numbered, _&_}
 use Rattle.expander.specs.Expander.{choiceOf}
 use Rattle.expander.specs.declared.Expander.{Expander}
 use Rattle.expander.specs.declared.Choice.{Choice}
@@ -19,7 +19,7 @@ use Rattle.expander.proofs.Chosen.{unknown}
 use Rattle.levels.specs.Levels.{totalOf, endingWith, noRoom, endingOf, endingBy, ending}
 use Rattle.levels.proofs.Closing.{same-parts}
 use Rattle.search.specs.Search.{Lent, total, totalUnder, reports, recordBytes, listBytes, queriesFit, lentCauses, spaceCauses, searchNumber, recordLength, listLength, recordAfter, listAfter, searchEnding, reachesOf}
-use Rattle.search.proofs.Outcome.{Bearing}
+use Rattle.search.proofs.Outcome.{Bearing, threshold-other}
 use Rattle.search.proofs.Areas.{record-length-refused, list-length-refused, list-refused, record-refused, record-zeroed, record-length, list-length}
 
 -- ---- the number that is due
@@ -49,7 +49,7 @@ module _ (s : Lent) where
       let n : number ≡ searchNumber s = e ∙ sym (first-due (lentCauses s) (spaceCauses s) (λ z. h (e ∙ z))) in
       let some : searchNumber s ≢ 0 = λ z. h (n ∙ z) in
       let other : searchNumber s ≢ 11 =
-      λ z. due-other 11 (lentCauses s) (omega arith & omega arith & omega arith & omega arith & omega arith & omega arith & omega arith & omega arith & tt) (omega arith)
+      λ z. due-other 11 (lentCauses s) (omega arith & threshold-other (s .weighted) & omega arith & omega arith & omega arith & omega arith & omega arith & omega arith & tt) (omega arith)
       (sym e ∙ n ∙ z) in
       same-parts n (sym (record-length-refused s some)) (sym (list-length-refused s some)) (sym (record-refused s some other)) (sym (list-refused s some))
 
@@ -57,7 +57,7 @@ module _ (s : Lent) where
 
   module _ (clear : numberDue (lentCauses s) ≡ 0) where
     none : Clear (lentCauses s)
-    none = number-clear (lentCauses s) (omega arith & omega arith & omega arith & omega arith & omega arith & omega arith & omega arith & omega arith & tt) clear
+    none = number-clear (lentCauses s) (omega arith & threshold-numbered (s .weighted) & omega arith & omega arith & omega arith & omega arith & omega arith & omega arith & tt) clear
 
     pub within-bounds : (1 ≤ s .n) × (s .n ≤ 256)
     within-bounds = bounds mostBits (s .n) (none .0)
@@ -103,12 +103,12 @@ module _ (s : Lent) where
 
       pub settled : (last number recordLength′ listLength′ : ℕ) (recordArea′ listArea′ : List ℕ) → last + 1 ≡ s .n
           → endingWith number recordLength′ listLength′ recordArea′ listArea′
-          ≡ ending (record { t = s .t; weighted = false }) e (last + 1) (s .seeds0) (s .shares0) (s .seeds1) (s .shares1) (s .recordArea) (s .listArea)
+          ≡ ending (record { t = s .t; weighted = s .weighted }) e (last + 1) (s .seeds0) (s .shares0) (s .seeds1) (s .shares1) (s .recordArea) (s .listArea)
           → Settled number recordLength′ listLength′ recordArea′ listArea′
       unfolding ending
       settled last number recordLength′ listLength′ recordArea′ listArea′ m h = told (rw m at h)
         where
           told : endingWith number recordLength′ listLength′ recordArea′ listArea′
-              ≡ ending (record { t = s .t; weighted = false }) e (s .n) (s .seeds0) (s .shares0) (s .seeds1) (s .shares1) (s .recordArea) (s .listArea)
+              ≡ ending (record { t = s .t; weighted = s .weighted }) e (s .n) (s .seeds0) (s .shares0) (s .seeds1) (s .shares1) (s .recordArea) (s .listArea)
               → Settled number recordLength′ listLength′ recordArea′ listArea′
           told g = g ∙ sym same-ending ∙ sym call-ending

@@ -9,7 +9,7 @@ use mathlib.Core.Logic.{_≢_}
 use borrow.Author.Tests.{eqb-true, ltb-false, not-false}
 use lib.ListN.{length}
 use lib.Dec.{eqb, ltb}
-use Rattle.calls.specs.Bounds.{mostBits, mostThreshold, mostReports}
+use Rattle.calls.specs.Bounds.{mostBits, thresholdMost, thresholdNumber, mostReports}
 use Rattle.calls.specs.Causes.{Cause, numberDue}
 use Rattle.calls.proofs.Decisions.{neither, bounds}
 use Rattle.calls.proofs.Judged.{_&_}
@@ -33,6 +33,15 @@ use Rattle.search.proofs.SameBytes.{same-equal}
 abbrev pub Bearing : ℕ → List Cause → Type 0
 Bearing k [] = Unit {0}
 Bearing k (c ∷ cs) = (c .number ≢ k) × Bearing k cs
+
+-- the number of the threshold's cause is neither 0 nor 11
+threshold-not-0 : (weighted : Bool) → thresholdNumber weighted ≢ 0
+threshold-not-0 false = omega arith
+threshold-not-0 true = omega arith
+
+pub threshold-other : (weighted : Bool) → thresholdNumber weighted ≢ 11
+threshold-other false = omega arith
+threshold-other true = omega arith
 
 -- where a number is due, none of the causes that bear another and stand before it applies
 pub none-before : (k : ℕ) (cs ds : List Cause) → Bearing k cs → numberDue (cs ++ ds) ≡ k
@@ -82,7 +91,7 @@ pub record Sound (s : Lent) : Type 0 where
   pub some-bits : 1 ≤ s .n
   pub not-longer : s .n ≤ 256
   pub some-threshold : 1 ≤ s .t
-  pub not-higher : s .t ≤ 65535
+  pub not-higher : s .t ≤ thresholdMost (s .weighted)
   pub expander : Expander
   pub named : choiceOf (s .expander) ≡ Known expander
   pub lent0 : Whole (s .n) (s .seeds0) (s .shares0) (reports s)
@@ -109,7 +118,7 @@ module _ (s : Lent) where
   sound : calls.Clear (lentCauses s) → Sound s
   sound a =
       let bits = bounds mostBits (s .n) (a .0) in
-      let threshold = bounds mostThreshold (s .t) (a .1 .0) in
+      let threshold = bounds (thresholdMost (s .weighted)) (s .t) (a .1 .0) in
       let e = named-expander (s .expander) (not-false _ (a .1 .1 .0)) in
       let lengths = neither (wrongLengths (s .n) (s .seeds0) (s .shares0)) _ (a .1 .1 .1 .0) in
       let other = neither (wrongLengths (s .n) (s .seeds1) (s .shares1)) _ (lengths .1) in
@@ -137,7 +146,7 @@ module _ (s : Lent) where
   -- what follows from 0
   pub accepted-clear : searchNumber s ≡ 0 → Clear s
   accepted-clear h =
-      let r = past 0 (omega arith & omega arith & omega arith & omega arith & omega arith & omega arith & omega arith & omega arith & tt) h in
+      let r = past 0 (omega arith & threshold-not-0 (s .weighted) & omega arith & omega arith & omega arith & omega arith & omega arith & omega arith & tt) h in
       let last = none-before 0 (spaceCauses s) [] (omega arith & tt) (r .1) .0 in
       let room = neither (ltb (length (s .recordArea)) (length (recordBytes s))) _ (last .0) in
       let list = neither (ltb (length (s .listArea)) (length (listBytes s))) _ (room .1) in
@@ -150,4 +159,4 @@ module _ (s : Lent) where
 
   -- what follows from 11
   pub not-before-11 : searchNumber s ≡ 11 → Sound s
-  not-before-11 h = past 11 (omega arith & omega arith & omega arith & omega arith & omega arith & omega arith & omega arith & omega arith & tt) h .0
+  not-before-11 h = past 11 (omega arith & threshold-other (s .weighted) & omega arith & omega arith & omega arith & omega arith & omega arith & omega arith & tt) h .0

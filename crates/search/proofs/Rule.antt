@@ -13,13 +13,16 @@ use Rattle.expander.specs.declared.Choice.{Choice}
 use Rattle.expander.specs.declared.Choice.the-variants.{Known}
 use Rattle.group.specs.Modular.{p}
 use Rattle.point.specs.Evaluation.{bitOf}
+use Rattle.kept.specs.Kept.{reaches}
+use Rattle.kept.proofs.Weightless.{reaches-either}
 use Rattle.query.specs.Query.{packs, limit, children}
 use Rattle.tree.specs.SearchRule.{searchRecord, searchList}
 use Rattle.tree.specs.Cut.{honestRecord, honestList, honestFits}
 use Rattle.tree.proofs.Limit.{fits-within}
+use Rattle.tree.proofs.Totals.{count-le}
 use Rattle.tree.proofs.Agree.{list-agrees, fits-agree, record-agrees}
 use Rattle.report_sums.specs.Reports.{allCount, serverSum}
-use Rattle.search.specs.Search.{Lent, reports, totalUnder, total, recordBytes, listBytes, queriesFit, reachesOf}
+use Rattle.search.specs.Search.{Lent, reports, thresholdOf, totalUnder, total, recordBytes, listBytes, queriesFit, reachesOf}
 
 -- The total of a prefix is the sum of what server 0 and server 1 add up over their own seeds and public shares.
 pub total-sum : (s : Lent) (e : Expander) → choiceOf (s .expander) ≡ Known e → (q : Bits)
@@ -35,16 +38,22 @@ unfolding queriesFit
 queries-within s fits = fits-within (reachesOf s) (total s) (s .n) fits
 
 -- Where the total of each prefix of 1 to n bits is the number of strings that have it, and there are as many reports as strings:
-module _ (s : Lent) (xs : List Bits) (held : (q : Bits) → 0 < length q → length q ≤ s .n → total s q ≡ count xs q) (as-many : reports s ≡ length xs) where
+module _ (s : Lent) (xs : List Bits) (held : (q : Bits) → 0 < length q → length q ≤ s .n → total s q ≡ count xs q) (as-many : reports s ≡ length xs)
+    (few : length xs ≤ 65535) where
+  -- a total is kept where it is in a search that is not weighted
+  tests : (q : Bits) → 0 < length q → length q ≤ s .n → reachesOf s (total s q) ≡ reaches (thresholdOf s) (count xs q)
+  tests q some fits =
+      ap (reachesOf s) (held q some fits) ∙ reaches-either (s .weighted) (thresholdOf s) (count xs q) (omega (arith, count-le xs q))
+
   -- the kept prefixes of each length are those of the strings
   pub kept-held : (k : ℕ) → k ≤ s .n → searchList (reachesOf s) (total s) k ≡ honestList k (s .t) xs
-  kept-held k l = list-agrees (reachesOf s) (total s) (count xs) (s .n) held k l
+  kept-held k l = list-agrees (reachesOf s) (reaches (s .t)) (total s) (count xs) (s .n) held tests k l
 
   pub record-held : recordBytes s ≡ honestRecord (s .n) (s .t) xs
   unfolding recordBytes
   record-held =
-      record-agrees (reachesOf s) (total s) (count xs) (s .n) held (reports s)
-      ∙ ap (λ (C : ℕ). searchRecord (reachesOf s) (count xs) C (s .n)) as-many
+      record-agrees (reachesOf s) (reaches (s .t)) (total s) (count xs) (s .n) held tests (reports s)
+      ∙ ap (λ (C : ℕ). searchRecord (reaches (s .t)) (count xs) C (s .n)) as-many
 
   pub list-held : listBytes s ≡ packs (honestList (s .n) (s .t) xs)
   unfolding listBytes
@@ -52,4 +61,4 @@ module _ (s : Lent) (xs : List Bits) (held : (q : Bits) → 0 < length q → len
 
   pub fits-held : queriesFit s ≡ honestFits (s .n) (s .t) xs
   unfolding queriesFit
-  fits-held = fits-agree (reachesOf s) (total s) (count xs) (s .n) held
+  fits-held = fits-agree (reachesOf s) (reaches (s .t)) (total s) (count xs) (s .n) held tests

@@ -78,7 +78,7 @@ unfolding searchNumber
 search-due s byte0 byte1 =
     number-due
     (length-decided (s .n)
-    (threshold-decided (s .t)
+    (threshold-decided (s .weighted) (s .t)
     (expander-decided (s .expander)
     (next {b = wrong0 s || (wrong1 s || other-seeds s)} (lengths s) (lengths-test s)
     (reports-decided (reports s)

@@ -1,4 +1,4 @@
--- The call `search`: document 01, 'The search' and 'Causes of refusal'.
+-- The call `search`: document 01, 'The search' and 'Causes of refusal', and document 02, [1].
 use Prim.Native.Nat.{ℕ, _/_, _<_}
 use mathlib.Core.Bool.{Bool, true, false, cond, not, _&&_, _||_}
 use mathlib.Core.List.{List, [], _∷_, _++_}
@@ -12,17 +12,18 @@ use Rattle.calls.specs.Causes.{Cause, cause, numberDue}
 use Rattle.expander.specs.Expander.{choiceOf}
 use Rattle.expander.specs.declared.Choice.{Choice}
 use Rattle.expander.specs.declared.Choice.the-variants.{Known, Unknown}
-use Rattle.kept.specs.Kept.{reaches}
+use Rattle.kept.specs.Kept.{reachesAs}
 use Rattle.query.specs.Query.{packs, limit, children}
 use Rattle.tree.specs.SearchRule.{searchRecord, searchList, searchFits}
 use Rattle.levels.specs.Levels.{totalOf, Ending, endingWith}
 use Rattle.search.specs.declared.Found.{Found}
 use Rattle.report_sums.specs.Checks.{WrongLengths, wrongLengths, PayloadTooLarge, payloadTooLarge, SpareBitsSet, spareBitsSet}
 
--- What a search is lent: the string length, the threshold and the expander's number; each server's root seeds and public shares; the record area
--- and the list area.
+-- What a search is lent: the string length, whether it is weighted, the threshold and the expander's number; each server's root seeds and public
+-- shares; the record area and the list area.
 pub record Lent : Type 0 where
   pub n : ℕ
+  pub weighted : Bool
   pub t : ℕ
   pub expander : ℕ
   pub seeds0 : List ℕ
@@ -33,9 +34,10 @@ pub record Lent : Type 0 where
   pub listArea : List ℕ
 
 -- the same, by its parts
-abbrev pub lent : ℕ → ℕ → ℕ → List ℕ → List ℕ → List ℕ → List ℕ → List ℕ → List ℕ → Lent
-lent n t expander seeds0 shares0 seeds1 shares1 recordArea listArea = record {
+abbrev pub lent : ℕ → Bool → ℕ → ℕ → List ℕ → List ℕ → List ℕ → List ℕ → List ℕ → List ℕ → Lent
+lent n weighted t expander seeds0 shares0 seeds1 shares1 recordArea listArea = record {
   n = n;
+  weighted = weighted;
   t = t;
   expander = expander;
   seeds0 = seeds0;
@@ -58,9 +60,9 @@ countedNumber s = reports s
 abbrev pub thresholdOf : Lent → ℕ
 thresholdOf s = s .t
 
--- whether a total, as a whole number, is at least t
+-- whether a total, as a whole number and in a weighted search as a signed one, is at least t
 abbrev pub reachesOf : Lent → ℕ → Bool
-reachesOf s = reaches (thresholdOf s)
+reachesOf s = reachesAs (s .weighted) (thresholdOf s)
 
 -- ---- the search
 
@@ -97,9 +99,9 @@ sameBytes [] (y ∷ ys) = false
 sameBytes (x ∷ xs) [] = false
 sameBytes (x ∷ xs) (y ∷ ys) = eqb x y && sameBytes xs ys
 
--- those of the settings: n, t and the expander
-abbrev pub settingsCauses : ℕ → ℕ → ℕ → List Cause
-settingsCauses n t expander = lengthCause n ∷ thresholdCause t ∷ expanderCause expander ∷ []
+-- those of the settings: n, t, which a weighted search bounds otherwise, and the expander
+abbrev pub settingsCauses : ℕ → Bool → ℕ → ℕ → List Cause
+settingsCauses n weighted t expander = lengthCause n ∷ thresholdCause weighted t ∷ expanderCause expander ∷ []
 
 -- of how much is lent
 abbrev pub amountCauses : ℕ → List ℕ → List ℕ → List ℕ → List ℕ → List Cause
@@ -127,7 +129,7 @@ spaceCauses s =
 -- those of what is lent, before the space
 abbrev pub lentCauses : Lent → List Cause
 lentCauses s =
-    settingsCauses (s .n) (s .t) (s .expander)
+    settingsCauses (s .n) (s .weighted) (s .t) (s .expander)
     ++ (amountCauses (s .n) (s .seeds0) (s .shares0) (s .seeds1) (s .shares1) ++ publicShareCauses (s .n) (s .seeds0) (s .shares0) (s .seeds1) (s .shares1))
 
 -- all, in the order in which they are judged

@@ -1,4 +1,4 @@
-// The causes of what is lent: 1 to 8.
+// The causes of what is lent: 1 to 8, and 12 in the place of 2.
 ghost use mathlib.Core.Path.{_≡_};
 ghost use mathlib.Core.Bool.{not, _||_};
 ghost use mathlib.Core.List.{[]};
@@ -60,14 +60,14 @@ fn spare_bits_set(n: u16, seeds0: &[u8], shares0: &[u8], seeds1: &[u8], shares1:
 }
 
 // The number of the first of these causes of the settings that applies, or 0.
-fn settings_cause(n: u64, t: u64, expander: u64) -> u64
-    ensures { λ r. ⌜ r ≡ numberDue (settingsCauses n t expander) ⌝ }
+fn settings_cause(n: u64, weighted: bool, t: u64, expander: u64) -> u64
+    ensures { λ r. ⌜ r ≡ numberDue (settingsCauses n weighted t expander) ⌝ }
 {
     if calls::length_outside(n) {
         return 1;
     }
-    if calls::threshold_outside(t) {
-        return 2;
+    if calls::threshold_outside(weighted, t) {
+        return calls::threshold_number(weighted);
     }
     if !expander::is_expander(expander) {
         return 3;
@@ -110,6 +110,7 @@ fn public_share_cause(n: u16, seeds0: &[u8], shares0: &[u8], seeds1: &[u8], shar
 // The number of the first cause of what is lent that applies, or 0.
 pub(crate) fn first_cause(
     n: u64,
+    weighted: bool,
     t: u64,
     expander: u64,
     seeds0: &[u8],
@@ -117,10 +118,10 @@ pub(crate) fn first_cause(
     seeds1: &[u8],
     shares1: &[u8],
 ) -> u64
-    ensures { λ r. ⌜ r ≡ numberDue (lentCauses (lent n t expander (now (seeds0 .entry)) (now (shares0 .entry)) (now (seeds1 .entry)) (now (shares1 .entry))
+    ensures { λ r. ⌜ r ≡ numberDue (lentCauses (lent n weighted t expander (now (seeds0 .entry)) (now (shares0 .entry)) (now (seeds1 .entry)) (now (shares1 .entry))
         [] [])) ⌝ }
 {
-    let settings = settings_cause(n, t, expander);
+    let settings = settings_cause(n, weighted, t, expander);
     if settings != 0 {
         return settings;
     }

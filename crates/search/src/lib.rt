@@ -15,10 +15,11 @@ pub struct Found {
     pub list_length: u64,
 }
 
-// Searches: writes the record, each query followed by its totals, and the list of the kept strings of n bits; refuses with 1 to 8, or with 11, when
-// the record area becomes zero.
+// Searches: writes the record, each query followed by its totals, and the list of the kept strings of n bits; refuses with 1 to 8, with 12 in the place
+// of 2 where the search is weighted, or with 11, when the record area becomes zero.
 pub fn search(
     n: u64,
+    weighted: bool,
     t: u64,
     expander: u64,
     seeds0: &[u8],
@@ -28,12 +29,13 @@ pub fn search(
     record: &mut [u8],
     list: &mut [u8],
 ) -> Found
-    ensures { λ r. ⌜ returned r (now («record» .exit)) (now (list .exit)) ≡ searchEnding (lent n t expander (now (seeds0 .entry))
+    ensures { λ r. ⌜ returned r (now («record» .exit)) (now (list .exit)) ≡ searchEnding (lent n weighted t expander (now (seeds0 .entry))
         (now («public_shares0» .entry))
         (now (seeds1 .entry)) (now («public_shares1» .entry)) (now («record» .entry)) (now (list .entry))) ⌝ }
 {
     let number = first_cause(
         n,
+        weighted,
         t,
         expander,
         seeds0,
@@ -53,7 +55,7 @@ pub fn search(
             let found = levels::run(
                 e,
                 (n - 1) as u8,
-                Rule { t, weighted: false },
+                Rule { t, weighted },
                 seeds0,
                 public_shares0,
                 seeds1,

@@ -2,23 +2,34 @@
 use bits::packed_length;
 ghost use mathlib.Core.Path.{_≡_};
 ghost use Prim.Native.Nat.{_-_, _≤_, _<_, min};
-ghost use Rattle.tree.specs.Space.{levelLength, spaceFrom};
+ghost use Rattle.tree.specs.Space.{levelLength, spaceFrom, fewestHolders};
 ghost use Rattle.space.specs.SearchSpace.{outsideBounds, namedRecordSpace, namedListSpace};
 
 // How many bytes stand before the first query of a record.
 const HEADING_LENGTH: usize = 0;
 
 // Whether n, t or the number of reports is outside its bounds.
-fn outside_bounds(n: u64, t: u64, reports: u64) -> bool
-    ensures { λ r. ⌜ r ≡ outsideBounds n t reports ⌝ }
+fn outside_bounds(n: u64, weighted: bool, t: u64, reports: u64) -> bool
+    ensures { λ r. ⌜ r ≡ outsideBounds n weighted t reports ⌝ }
 {
     if calls::length_outside(n) {
         return true;
     }
-    if calls::threshold_outside(t) {
+    if calls::threshold_outside(weighted, t) {
         return true;
     }
     calls::too_many_reports(reports as usize)
+}
+
+// How many installations hold a kept prefix, at least.
+fn fewest_holders(weighted: bool, t: u64) -> u64
+    requires { ⌜ (1 ≤ t) × (t ≤ 2147483647) ⌝ }
+    ensures { λ r. ⌜ (r ≡ fewestHolders weighted t) × (1 ≤ r) ⌝ }
+{
+    if weighted {
+        return (t + 32766) / 32767;
+    }
+    t
 }
 
 // The lesser of two numbers.
@@ -59,24 +70,24 @@ fn levels_length(n: usize, most: usize) -> usize
 }
 
 // Space that is enough for the record of a search over this many honest reports; 0 where an argument is outside its bounds.
-pub fn record_space(n: u64, t: u64, reports: u64) -> u64
-    ensures { λ r. ⌜ r ≡ namedRecordSpace n t reports ⌝ }
+pub fn record_space(n: u64, weighted: bool, t: u64, reports: u64) -> u64
+    ensures { λ r. ⌜ r ≡ namedRecordSpace n weighted t reports ⌝ }
 {
-    if outside_bounds(n, t, reports) {
+    if outside_bounds(n, weighted, t, reports) {
         return 0;
     }
-    let most = reports / t;
+    let most = reports / fewest_holders(weighted, t);
     let first = HEADING_LENGTH + level_length(0, 2);
     (first + levels_length(n as usize, most as usize)) as u64
 }
 
 // Space that is enough for the list of a search over this many honest reports; 0 where an argument is outside its bounds.
-pub fn list_space(n: u64, t: u64, reports: u64) -> u64
-    ensures { λ r. ⌜ r ≡ namedListSpace n t reports ⌝ }
+pub fn list_space(n: u64, weighted: bool, t: u64, reports: u64) -> u64
+    ensures { λ r. ⌜ r ≡ namedListSpace n weighted t reports ⌝ }
 {
-    if outside_bounds(n, t, reports) {
+    if outside_bounds(n, weighted, t, reports) {
         return 0;
     }
-    let strings = reports / t;
+    let strings = reports / fewest_holders(weighted, t);
     strings * (packed_length(n as usize) as u64)
 }

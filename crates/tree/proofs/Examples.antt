@@ -10,7 +10,7 @@ use Rattle.bits.specs.Strings.{Bits, count}
 use Rattle.query.specs.Query.{children}
 use Rattle.tree.specs.SearchRule.{start, Ended}
 use Rattle.tree.specs.Cut.{cut, cuts, Rearranged}
-use Rattle.tree.specs.Space.{levelLength, spaceFrom, recordSpace, listSpace}
+use Rattle.tree.specs.Space.{levelLength, spaceFrom, fewestHolders, recordSpace, listSpace}
 
 abbrev pub s00 : Bits
 s00 = false ∷ false ∷ []
@@ -60,3 +60,13 @@ exam-space = (refl, refl)
 pub D-space : recordSpace 2 2 3 ≡ 48
 unfolding recordSpace spaceFrom levelLength
 D-space = refl
+
+-- One holder is enough for a weighted threshold up to 32,767, two for one more, 65,539 for the greatest.
+pub one-holder : fewestHolders true 32767 ≡ 1
+one-holder = refl
+
+pub two-holders : fewestHolders true 32768 ≡ 2
+two-holders = refl
+
+pub most-holders : fewestHolders true 2147483647 ≡ 65539
+most-holders = refl

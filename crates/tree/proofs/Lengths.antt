@@ -19,7 +19,7 @@ use Rattle.places.proofs.Lists.{select-length, number-le}
 use Rattle.query.proofs.Children.{children-length, children-longer, kept-longer}
 use Rattle.query.proofs.Queries.{packs-length, query-length}
 use Rattle.tree.proofs.Kept.{list-length}
-use Rattle.tree.proofs.Totals.{heavy, Stands, stands-start, stands-kept, stands-few, kept-length}
+use Rattle.tree.proofs.Totals.{Held, heavy-held, Stands, stands-start, stands-kept, stands-few, kept-few}
 
 -- ---- any totals
 
@@ -70,41 +70,54 @@ level-grows k zero d h = omega arith
 level-grows k (suc c) zero h = absurd (omega arith)
 level-grows k (suc c) (suc d) h = omega (arith, mul-le-mul-right (packedLength (suc k) + 8) h)
 
-module _ (n t : ℕ) (xs : List Bits) (all : OfLength n xs) (pos : 1 ≤ t) where
+-- Strings of n bits, and a test that keeps only prefixes that at least h of them have.
+module _ (keeps : Bits → Bool) (h n : ℕ) (xs : List Bits) (all : OfLength n xs) (held : Held keeps h xs n) (pos : 1 ≤ h) where
   abbrev w : ℕ
-  w = length xs / t
+  w = length xs / h
 
-  space-from : (m k : ℕ) (ps : List Bits) → Stands t xs k ps → k + m ≤ n → length ps ≤ w → length ps ≤ 2 ^ k → lengthFrom (heavy t xs) m k ps ≤ spaceFrom w m k
+  space-from : (m k : ℕ) (ps : List Bits) → Stands keeps xs k ps → k + m ≤ n → length ps ≤ w → length ps ≤ 2 ^ k → lengthFrom keeps m k ps ≤ spaceFrom w m k
   unfolding spaceFrom
   space-from zero k ps a l few least = omega arith
   space-from (suc m) k ps a l few least =
-      let kept = select (heavy t xs) (children ps) in
-      let v = stands-kept n t xs all k ps a (omega arith) in
+      let kept = select keeps (children ps) in
+      let v = stands-kept keeps h n xs all held k ps a (omega arith) in
       let two : length (children ps) ≤ 2 ^ suc k = omega (arith, children-length ps, pow-succ' 2 k) in
       let most : length (children ps) ≤ 2 * w = omega (arith, children-length ps) in
-      let less : length kept ≤ 2 ^ suc k = omega (arith, select-length (heavy t xs) (children ps), number-le (heavy t xs) (children ps)) in
-      let ih = space-from m (suc k) kept v (omega arith) (stands-few t xs pos k kept v) less in
+      let less : length kept ≤ 2 ^ suc k = omega (arith, select-length keeps (children ps), number-le keeps (children ps)) in
+      let ih = space-from m (suc k) kept v (omega arith) (stands-few keeps h n xs all held pos k (omega arith) kept v) less in
       omega (arith, ih, level-grows k (length (children ps)) (min (2 ^ suc k) (2 * w)) (le-min two most))
 
-  record-space : (m : ℕ) → m ≤ n → lengthFrom (heavy t xs) m 0 start + headingLength ≤ recordSpace m t (length xs)
+  record-space : (m : ℕ) → m ≤ n → lengthFrom keeps m 0 start + headingLength ≤ recordSpace m h (length xs)
   unfolding recordSpace
   record-space zero l = omega arith
   record-space (suc m) l =
-      let kept = select (heavy t xs) (children start) in
-      let v = stands-kept n t xs all 0 start (stands-start t xs) (omega arith) in
-      let less : length kept ≤ 2 ^ 1 = omega (arith, select-length (heavy t xs) (children start), number-le (heavy t xs) (children start)) in
-      omega (arith, space-from m 1 kept v (omega arith) (stands-few t xs pos 0 kept v) less)
+      let kept = select keeps (children start) in
+      let v = stands-kept keeps h n xs all held 0 start (stands-start keeps xs) (omega arith) in
+      let less : length kept ≤ 2 ^ 1 = omega (arith, select-length keeps (children start), number-le keeps (children start)) in
+      omega (arith, space-from m 1 kept v (omega arith) (stands-few keeps h n xs all held pos 0 (omega arith) kept v) less)
 
-  -- The record of an honest search fits its space.
-  pub honest-record-space : length (honestRecord n t xs) ≤ recordSpace n t (length xs)
-  honest-record-space = omega (arith, record-length (reaches t) (count xs) (length xs) n, record-space n (omega arith))
+-- A search over such strings, where at least h have each kept prefix.
+module _ (enough : ℕ → Bool) (T : Bits → ℕ) (h n : ℕ) (xs : List Bits) (all : OfLength n xs) (held : Held (isKept enough T) h xs n) (pos : 1 ≤ h) where
+  -- Its record fits its space.
+  pub held-record-space : (C : ℕ) → length (searchRecord enough T C n) ≤ recordSpace n h (length xs)
+  held-record-space C = omega (arith, record-length enough T C n, record-space (isKept enough T) h n xs all held pos n (omega arith))
+
+  -- Its list fits its space.
+  pub held-list-space : 1 ≤ n → length (packs (searchList enough T n)) ≤ listSpace n h (length xs)
+  unfolding listSpace searchList
+  held-list-space some = rw (list-bytes enough T n) (mul-le-mul-right (packedLength n) (few n (omega arith) some))
+    where
+      few : (m : ℕ) → m ≤ n → 1 ≤ m → length (searchList enough T m) ≤ length xs / h
+      few zero l some = absurd (omega arith)
+      few (suc m) l some = kept-few (isKept enough T) h n xs all held pos m l
+
+-- The record of an honest search fits its space.
+pub honest-record-space : (n t : ℕ) (xs : List Bits) → OfLength n xs → 1 ≤ t → length (honestRecord n t xs) ≤ recordSpace n t (length xs)
+honest-record-space n t xs all pos = held-record-space (reaches t) (count xs) t n xs all (heavy-held t xs n) pos (length xs)
 
 -- The list of an honest search fits its space.
 pub honest-list-space : (n t : ℕ) (xs : List Bits) → OfLength n xs → 1 ≤ t → 1 ≤ n → length (packs (honestList n t xs)) ≤ listSpace n t (length xs)
-unfolding listSpace
-honest-list-space zero t xs all pos h = absurd (omega arith)
-honest-list-space (suc n) t xs all pos h =
-    rw (list-bytes (reaches t) (count xs) (suc n)) (mul-le-mul-right (packedLength (suc n)) (kept-length (suc n) t xs all pos n (omega arith)))
+honest-list-space n t xs all pos = held-list-space (reaches t) (count xs) t n xs all (heavy-held t xs n) pos
 
 -- ---- space grows
 

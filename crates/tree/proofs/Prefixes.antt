@@ -55,6 +55,12 @@ listed (b ∷ q) (c ∷ s) e h =
 pub prefixes-exact : (q s : Bits) → (q ∈ prefixes s) ↔ ((isPrefix q s ≡ true) × (1 ≤ length q))
 prefixes-exact q s = (λ i. all-mem (Begins s) (all-begin s) i, λ h. listed q s (h .0) (h .1))
 
+-- A prefix is no longer than the string.
+pub prefix-shorter : (q s : Bits) → isPrefix q s ≡ true → length q ≤ length s
+prefix-shorter [] s e = omega arith
+prefix-shorter (b ∷ q) [] e = absurd (let z : _≡_ {A = ℕ} 0 1 = cc in omega arith)
+prefix-shorter (b ∷ q) (c ∷ s) e = omega (arith, prefix-shorter q s (and-right (Bool·beq b c) (isPrefix q s) e))
+
 -- ---- the shortest
 
 -- none of the strings is longer than those that follow it

@@ -92,59 +92,84 @@ unfolding sum
 sum-least t T [] a = omega arith
 sum-least t T (p ∷ ps) a = omega (arith, a .0, sum-least t T ps (a .1))
 
-module _ (t : ℕ) (xs : List Bits) where
-  abbrev pub heavy : Bits → Bool
-  heavy q = leb t (count xs q)
+-- whether at least t of the strings have the prefix
+abbrev pub heavy : ℕ → List Bits → Bits → Bool
+heavy t xs q = leb t (count xs q)
 
+-- at least h of the strings have each kept prefix of 1 to n bits
+abbrev pub Held : (Bits → Bool) → ℕ → List Bits → ℕ → Type 0
+Held keeps h xs n = (q : Bits) → 0 < length q → length q ≤ n → keeps q ≡ true → h ≤ count xs q
+
+-- at least t have each heavy one
+pub heavy-held : (t : ℕ) (xs : List Bits) (n : ℕ) → Held (heavy t xs) t xs n
+heavy-held t xs n q some fits k = leb-true t (count xs q) k
+
+module _ (keeps : Bits → Bool) (xs : List Bits) where
   -- ps are kept prefixes of k bits, and stand for no more strings than there are
   abbrev pub Stands : ℕ → List Bits → Type 0
-  Stands k ps = All (Survives heavy k) ps × (sum (count xs) ps ≤ length xs)
+  Stands k ps = All (Survives keeps k) ps × (sum (count xs) ps ≤ length xs)
 
   pub stands-start : Stands 0 start
   unfolding sum
   stands-start = (((refl, tt), tt), omega (arith, count-all xs))
 
-  -- at most C / t prefixes of one length are kept
-  pub stands-few : 1 ≤ t → (k : ℕ) (ps : List Bits) → Stands (suc k) ps → length ps ≤ length xs / t
-  stands-few pos k ps a =
-      le-div-iff-mul-le pos .1 (le-trans (sum-least t (count xs) ps (all-map (Survives heavy (suc k)) _ (survives-heavy k t xs) ps (a .0))) (a .1))
+-- Strings of n bits, and a test that keeps only prefixes that at least h of them have.
+module _ (keeps : Bits → Bool) (h n : ℕ) (xs : List Bits) (all : OfLength n xs) (held : Held keeps h xs n) where
+  survives-held : (k : ℕ) → suc k ≤ n → (p : Bits) → Survives keeps (suc k) p → h ≤ count xs p
+  survives-held k l [] v = absurd (suc-ne-zero _ (sym (v .0)))
+  survives-held k l (b ∷ p) v = held (b ∷ p) (omega arith) (omega (arith, v .0)) (open-last keeps b p (v .1))
 
-module _ (n t : ℕ) (xs : List Bits) (all : OfLength n xs) where
+  -- at most C / h prefixes of one length are kept
+  pub stands-few : 1 ≤ h → (k : ℕ) → suc k ≤ n → (ps : List Bits) → Stands keeps xs (suc k) ps → length ps ≤ length xs / h
+  stands-few pos k l ps a =
+      le-div-iff-mul-le pos .1 (le-trans (sum-least h (count xs) ps (all-map (Survives keeps (suc k)) _ (survives-held k l) ps (a .0))) (a .1))
+
   sum-children : (k : ℕ) (ps : List Bits) → OfLength k ps → k < n → sum (count xs) (children ps) ≡ sum (count xs) ps
   unfolding sum
   sum-children k [] a l = refl
   sum-children k (p ∷ ps) a l = omega (arith, count-children n xs all p (omega (arith, a .0)), sum-children k ps (a .1) l)
 
-  pub stands-kept : (k : ℕ) (ps : List Bits) → Stands t xs k ps → k < n → Stands t xs (suc k) (select (heavy t xs) (children ps))
+  pub stands-kept : (k : ℕ) (ps : List Bits) → Stands keeps xs k ps → k < n → Stands keeps xs (suc k) (select keeps (children ps))
   stands-kept k ps a l =
-      let c = sum-children k ps (all-map (Survives (heavy t xs) k) _ (λ p v. v .0) ps (a .0)) l in
-      (survives-kept (heavy t xs) k ps (a .0), omega (arith, sum-select (count xs) (heavy t xs) (children ps), c, a .1))
+      let c = sum-children k ps (all-map (Survives keeps k) _ (λ p v. v .0) ps (a .0)) l in
+      (survives-kept keeps k ps (a .0), omega (arith, sum-select (count xs) keeps (children ps), c, a .1))
 
-  stands-from : (m k : ℕ) (ps : List Bits) → Stands t xs k ps → k + m ≤ n → Stands t xs (k + m) (keptFrom (heavy t xs) m ps)
+  stands-from : (m k : ℕ) (ps : List Bits) → Stands keeps xs k ps → k + m ≤ n → Stands keeps xs (k + m) (keptFrom keeps m ps)
   stands-from zero k ps a l = rw add-zero a
   stands-from (suc m) k ps a l =
-      rw (add-suc, ← suc-add k m) (stands-from m (suc k) (select (heavy t xs) (children ps)) (stands-kept k ps a (omega arith)) (omega arith))
+      rw (add-suc, ← suc-add k m) (stands-from m (suc k) (select keeps (children ps)) (stands-kept k ps a (omega arith)) (omega arith))
 
-  module _ (pos : 1 ≤ t) where
-    -- At most C / t prefixes of k + 1 bits are kept.
-    pub kept-length : (k : ℕ) → suc k ≤ n → length (honestList (suc k) t xs) ≤ length xs / t
-    unfolding searchList
-    kept-length k l =
-        stands-few t xs pos k (keptFrom (heavy t xs) (suc k) start) (rw zero-add at (stands-from (suc k) 0 start (stands-start t xs) (omega arith)))
+  module _ (pos : 1 ≤ h) where
+    -- At most C / h prefixes of k + 1 bits are kept.
+    pub kept-few : (k : ℕ) → suc k ≤ n → length (keptFrom keeps (suc k) start) ≤ length xs / h
+    kept-few k l =
+        stands-few pos k l (keptFrom keeps (suc k) start) (rw zero-add at (stands-from (suc k) 0 start (stands-start keeps xs) (omega arith)))
 
-    -- A query after the first has at most 2 × (C / t) prefixes.
-    pub query-most : (k : ℕ) → suc k ≤ n → length (children (honestList (suc k) t xs)) ≤ 2 * (length xs / t)
-    query-most k l = omega (arith, children-length (honestList (suc k) t xs), kept-length k l)
-
-    fits-from : length xs ≤ 65535 → (m k : ℕ) (ps : List Bits) → Stands t xs k ps → k + m ≤ n → length ps ≤ 65535 → fitsFrom (heavy t xs) m ps ≡ true
-    fits-from c zero k ps a l h = refl
-    fits-from c (suc m) k ps a l h =
-        let kept = select (heavy t xs) (children ps) in
+    fits-from : length xs ≤ 65535 → (m k : ℕ) (ps : List Bits) → Stands keeps xs k ps → k + m ≤ n → length ps ≤ 65535 → fitsFrom keeps m ps ≡ true
+    fits-from c zero k ps a l few = refl
+    fits-from c (suc m) k ps a l few =
+        let kept = select keeps (children ps) in
         let v = stands-kept k ps a (omega arith) in
         rw (le-leb (length (children ps)) limit (omega (arith, children-length ps)))
-        (fits-from c m (suc k) kept v (omega arith) (omega (arith, stands-few t xs pos k kept v, div-le-self (length xs) t)))
+        (fits-from c m (suc k) kept v (omega arith) (omega (arith, stands-few pos k (omega arith) kept v, div-le-self (length xs) h)))
 
-    -- An honest search of at most 65,535 strings never passes the limit.
-    pub honest-fits : length xs ≤ 65535 → honestFits n t xs ≡ true
-    unfolding searchFits
-    honest-fits c = fits-from c n 0 start (stands-start t xs) (omega arith) (omega arith)
+    -- With at most 65,535 strings no query passes the limit.
+    pub all-fit : length xs ≤ 65535 → fitsFrom keeps n start ≡ true
+    all-fit c = fits-from c n 0 start (stands-start keeps xs) (omega arith) (omega arith)
+
+-- ---- the same where at least t have a kept prefix
+
+module _ (n t : ℕ) (xs : List Bits) (all : OfLength n xs) (pos : 1 ≤ t) where
+  -- At most C / t prefixes of k + 1 bits are kept.
+  pub kept-length : (k : ℕ) → suc k ≤ n → length (honestList (suc k) t xs) ≤ length xs / t
+  unfolding searchList
+  kept-length k l = kept-few (heavy t xs) t n xs all (heavy-held t xs n) pos k l
+
+  -- A query after the first has at most 2 × (C / t) prefixes.
+  pub query-most : (k : ℕ) → suc k ≤ n → length (children (honestList (suc k) t xs)) ≤ 2 * (length xs / t)
+  query-most k l = omega (arith, children-length (honestList (suc k) t xs), kept-length k l)
+
+  -- An honest search of at most 65,535 strings never passes the limit.
+  pub honest-fits : length xs ≤ 65535 → honestFits n t xs ≡ true
+  unfolding searchFits
+  honest-fits c = all-fit (heavy t xs) t n xs all (heavy-held t xs n) pos c

@@ -153,7 +153,7 @@ fn key(expander: u64, n: u64, string: &[u8], out: &[u8], end: usize) {
 // The key of a packed string of n bits, and both servers' shares.
 fn report(expander: u64, n: u64, string: &[u8]) {
     let mut out = [0u8; 6208];
-    let reply = keymaker::make_key(n, expander, string, &SEED0, &SEED1, &mut out);
+    let reply = keymaker::make_key(n, expander, 1, string, &SEED0, &SEED1, &mut out);
     io::write_all(OUT, b"key ");
     number(expander);
     number(n);
@@ -211,4 +211,24 @@ pub(crate) fn long_string(expander: u64) {
 // A whole search of that string alone.
 pub(crate) fn long_search(expander: u64) {
     crate::searches::longest(expander, &LONG, &SEED0, &SEED1);
+}
+
+// The key of the string `101` with a weight, after its label.
+fn weighted_key(label: &[u8], weight: i16, expander: u64) {
+    let mut out = [0u8; 73];
+    let reply = keymaker::make_key(3, expander, weight, &[0xa0u8], &SEED0, &SEED1, &mut out);
+    io::write_all(OUT, label);
+    number(expander);
+    number(3);
+    beginning(&out, reply.length as usize);
+}
+
+// Keys with the least weight, with none and with the greatest, under both expanders.
+pub(crate) fn weights() {
+    weighted_key(b"key weight -32768 ", -32768, 1);
+    weighted_key(b"key weight -32768 ", -32768, 2);
+    weighted_key(b"key weight 0 ", 0, 1);
+    weighted_key(b"key weight 0 ", 0, 2);
+    weighted_key(b"key weight 32767 ", 32767, 1);
+    weighted_key(b"key weight 32767 ", 32767, 2);
 }

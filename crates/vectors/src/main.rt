@@ -98,12 +98,14 @@ fn main() {
     searches::examples(2);
     searches::examples(1);
     searches::one_bit();
-    searches::bounds(b"G", 1, 1);
-    searches::bounds(b"n 256", 256, 1);
-    searches::bounds(b"n 257", 257, 1);
-    searches::bounds(b"n 0", 0, 1);
-    searches::bounds(b"t 0", 1, 0);
-    searches::bounds(b"t 65535", 1, 65535);
-    searches::bounds(b"t 65536", 1, 65536);
+    searches::bounds(b"G", 1, false, 1);
+    searches::bounds(b"n 256", 256, false, 1);
+    searches::bounds(b"n 257", 257, false, 1);
+    searches::bounds(b"n 0", 0, false, 1);
+    searches::bounds(b"t 0", 1, false, 0);
+    searches::bounds(b"t 65535", 1, false, 65535);
+    searches::bounds(b"t 65536", 1, false, 65536);
     keys::long_search(1);
+    keys::weights();
+    searches::weighted();
 }

@@ -39,9 +39,10 @@ fn seeds(first: u64) -> [u8; 48] {
     s
 }
 
-// The public share of report i, whose string has 2 bits, in its place.
+// The public share of a report with a weight, whose string has 2 bits, in its place.
 fn put_key(
     expander: u64,
+    weight: i16,
     string: u8,
     seed0: [u8; 16],
     seed1: [u8; 16],
@@ -50,7 +51,7 @@ fn put_key(
 ) {
     let packed = [string];
     let mut key = [0u8; 49];
-    keymaker::make_key(2, expander, &packed, &seed0, &seed1, &mut key);
+    keymaker::make_key(2, expander, weight, &packed, &seed0, &seed1, &mut key);
     copy(&key, shares, at);
 }
 
@@ -59,6 +60,7 @@ fn keys(expander: u64, strings: [u8; 3], seeds0: [u8; 48], seeds1: [u8; 48]) -> 
     let mut shares = [0u8; 147];
     put_key(
         expander,
+        1,
         strings[0],
         read16(&seeds0, 0),
         read16(&seeds1, 0),
@@ -67,6 +69,7 @@ fn keys(expander: u64, strings: [u8; 3], seeds0: [u8; 48], seeds1: [u8; 48]) -> 
     );
     put_key(
         expander,
+        1,
         strings[1],
         read16(&seeds0, 16),
         read16(&seeds1, 16),
@@ -75,6 +78,7 @@ fn keys(expander: u64, strings: [u8; 3], seeds0: [u8; 48], seeds1: [u8; 48]) -> 
     );
     put_key(
         expander,
+        1,
         strings[2],
         read16(&seeds0, 32),
         read16(&seeds1, 32),
@@ -92,6 +96,7 @@ fn example(label: &[u8], expander: u64, strings: [u8; 3], record: &mut [u8]) {
     let mut list = [255u8; 1];
     let found = search::search(
         2,
+        false,
         2,
         expander,
         &seeds0,
@@ -123,6 +128,7 @@ fn one_report(label: &[u8], share: &[u8], seed0: [u8; 16], seed1: [u8; 16]) {
     let mut list = [255u8; 2];
     let found = search::search(
         1,
+        false,
         1,
         2,
         &seed0,
@@ -142,32 +148,44 @@ pub(crate) fn one_bit() {
     let mut one = [0u8; 16];
     write_le8(&mut one, 0, 1);
     let mut share = [0u8; 25];
-    keymaker::make_key(1, 2, &string, &zero, &zero, &mut share);
+    keymaker::make_key(1, 2, 1, &string, &zero, &zero, &mut share);
     one_report(b"H", &share, zero, zero);
-    keymaker::make_key(1, 2, &string, &zero, &one, &mut share);
+    keymaker::make_key(1, 2, 1, &string, &zero, &one, &mut share);
     write_le8(&mut share, 17, 18446744069414584320);
     one_report(b"I p - 1", &share, zero, one);
     write_le8(&mut share, 17, 18446744069414584321);
     one_report(b"I p", &share, zero, one);
 }
 
-// A search of no reports, with room for two totals.
-pub(crate) fn bounds(label: &[u8], n: u64, t: u64) {
+// A search of no reports, weighted or not, with room for two totals.
+pub(crate) fn bounds(label: &[u8], n: u64, weighted: bool, t: u64) {
     let none = [0u8; 0];
     let mut record = [255u8; 24];
     let mut list = [255u8; 1];
-    let found = search::search(n, t, 2, &none, &none, &none, &none, &mut record, &mut list);
+    let found = search::search(
+        n,
+        weighted,
+        t,
+        2,
+        &none,
+        &none,
+        &none,
+        &none,
+        &mut record,
+        &mut list,
+    );
     show(label, found, &record, &list);
 }
 
 // A search of one string of 256 bits, with t = 1: its number, the lengths of its record and list, and the list.
 pub(crate) fn longest(expander: u64, string: &[u8], seed0: &[u8], seed1: &[u8]) {
     let mut share = [0u8; 6208];
-    keymaker::make_key(256, expander, string, seed0, seed1, &mut share);
+    keymaker::make_key(256, expander, 1, string, seed0, seed1, &mut share);
     let mut record = [0u8; 14080];
     let mut list = [0u8; 32];
     let found = search::search(
         256,
+        false,
         1,
         expander,
         seed0,
@@ -182,4 +200,40 @@ pub(crate) fn longest(expander: u64, string: &[u8], seed0: &[u8], seed1: &[u8]) 
     number(found.record_length);
     bytes(&list, found.list_length as usize);
     io::write_all(OUT, b"\n");
+}
+
+// A weighted search of the strings `01`, `01`, `11` and `10`, whose weights are 5, −2, −7 and 4: `0` reaches the threshold 2, and `1` has a negative total.
+pub(crate) fn weighted() {
+    let mut shares = [0u8; 196];
+    put_key(2, 5, 0x40, [1u8; 16], [2u8; 16], &mut shares, 0);
+    put_key(2, -2, 0x40, [3u8; 16], [4u8; 16], &mut shares, 49);
+    put_key(2, -7, 0xc0, [5u8; 16], [6u8; 16], &mut shares, 98);
+    put_key(2, 4, 0x80, [7u8; 16], [8u8; 16], &mut shares, 147);
+    let mut seeds0 = [0u8; 64];
+    let mut seeds1 = [0u8; 64];
+    put_seeds(&mut seeds0, 1, 3, 5, 7);
+    put_seeds(&mut seeds1, 2, 4, 6, 8);
+    let mut record = [255u8; 48];
+    let mut list = [255u8; 1];
+    let found = search::search(
+        2,
+        true,
+        2,
+        2,
+        &seeds0,
+        &shares,
+        &seeds1,
+        &shares,
+        &mut record,
+        &mut list,
+    );
+    show(b"weighted", found, &record, &list);
+}
+
+// Four root seeds, each of one byte repeated.
+fn put_seeds(seeds: &mut [u8], first: u8, second: u8, third: u8, fourth: u8) {
+    copy(&[first; 16], seeds, 0);
+    copy(&[second; 16], seeds, 16);
+    copy(&[third; 16], seeds, 32);
+    copy(&[fourth; 16], seeds, 48);
 }

@@ -1,2 +1,4 @@
-pub mod WholeSums
+pub mod HeldWeights
 pub mod WeightedTotals
+pub mod Ones
+pub mod Examples

@@ -1,24 +1,23 @@
--- The weights of reports as signed numbers: document 02, [1].
-use Prim.Native.Nat.{ℕ}
+-- The weights of reports as signed numbers, and what those of a prefix's holders add to: document 02, [1].
 use mathlib.Core.Path.{_≡_}
-use mathlib.Core.List.{List}
+use mathlib.Core.Bool.{cond}
+use mathlib.Core.List.{List, [], _∷_}
 use lib.IntN.{ℤ, pos, negsuc, _+ℤ_}
 use lib.Signed.{_≤ℤ_}
-use Rattle.bits.specs.Strings.{Bits}
-use Rattle.group.specs.Modular.{modulus}
-use Rattle.signed.specs.SignedReading.{embed}
-use Rattle.point.specs.Totals.{Report, holders, sumOf}
+use Rattle.places.specs.Lists.{All}
+use Rattle.bits.specs.Strings.{Bits, isPrefix}
 
 -- w is a weight: from −32,768 to 32,767
 pub record IsWeight (w : ℤ) : Type 0 where
   pub least : negsuc 32767 ≤ℤ w
   pub most : w ≤ℤ pos 32767
 
--- The report is made with the weight w: it stands in its key as a group number.
-pub record Weighs (w : ℤ) (r : Report ℕ) : Type 0 where
-  pub weight : IsWeight w
-  pub made-with : r .weight ≡ embed modulus w
+-- every weight is one
+abbrev pub EveryOne : List ℤ → Type 0
+EveryOne ws = All (λ w. w ≡ pos 1) ws
 
--- what the weights of the holders of the prefix q add to, where `whole` tells each report's weight
-abbrev pub heldWeight : (Report ℕ → ℤ) → Bits → List (Report ℕ) → ℤ
-heldWeight whole q rs = sumOf _+ℤ_ (pos 0) whole (holders q rs)
+-- what the weights of those that hold the prefix q add to, where ws are the weights of the strings xs, one for each, in order
+abbrev pub heldWeight : List Bits → List ℤ → Bits → ℤ
+heldWeight [] ws q = pos 0
+heldWeight (x ∷ xs) [] q = pos 0
+heldWeight (x ∷ xs) (w ∷ ws) q = cond (isPrefix q x) w (pos 0) +ℤ heldWeight xs ws q

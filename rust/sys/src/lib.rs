@@ -50,11 +50,13 @@ pub fn block(expander: u64, seed: &[u8], j: u64, block: &mut [u8]) -> Reply {
     }
 }
 
-/// The public share of a packed string, into `public_share`.
+/// The public share of a packed string with a weight, into `public_share`.
 #[inline]
+#[allow(clippy::too_many_arguments)]
 pub fn key(
     n: u64,
     expander: u64,
+    weight: i16,
     string: &[u8],
     seed0: &[u8],
     seed1: &[u8],
@@ -65,6 +67,7 @@ pub fn key(
         library::tally_key(
             n,
             expander,
+            weight,
             string.as_ptr(),
             string.len(),
             seed0.as_ptr(),
@@ -122,10 +125,12 @@ pub fn add(share0: &[u8], share1: &[u8], out: &mut [u8]) -> Reply {
     }
 }
 
-/// The next query or the list of two shares for a query, into `out`.
+/// The next query or the list of two shares for a query, into `out`; where `weighted`, totals are read as signed numbers.
 #[inline]
+#[allow(clippy::too_many_arguments)]
 pub fn combine(
     n: u64,
+    weighted: bool,
     t: u64,
     query: &[u8],
     share0: &[u8],
@@ -136,6 +141,7 @@ pub fn combine(
     unsafe {
         library::tally_combine(
             n,
+            weighted,
             t,
             query.as_ptr(),
             query.len(),
@@ -151,23 +157,24 @@ pub fn combine(
 
 /// Space that is enough for the record of a search over this many honest reports; 0 where an argument is outside its bounds.
 #[inline]
-pub fn record_space(n: u64, t: u64, reports: u64) -> u64 {
+pub fn record_space(n: u64, weighted: bool, t: u64, reports: u64) -> u64 {
     // SAFETY: the call takes and returns numbers alone.
-    unsafe { library::tally_record_space(n, t, reports) }
+    unsafe { library::tally_record_space(n, weighted, t, reports) }
 }
 
-/// Space that is enough for the list of a search over this many honest reports; 0 where an argument is outside its bounds or t is more than them.
+/// Space that is enough for the list of a search over this many honest reports; 0 where an argument is outside its bounds or no string can be heavy.
 #[inline]
-pub fn list_space(n: u64, t: u64, reports: u64) -> u64 {
+pub fn list_space(n: u64, weighted: bool, t: u64, reports: u64) -> u64 {
     // SAFETY: the call takes and returns numbers alone.
-    unsafe { library::tally_list_space(n, t, reports) }
+    unsafe { library::tally_list_space(n, weighted, t, reports) }
 }
 
-/// The record and the list of a whole search, into their areas.
+/// The record and the list of a whole search, into their areas; where `weighted`, totals are read as signed numbers.
 #[inline]
 #[allow(clippy::too_many_arguments)]
 pub fn search(
     n: u64,
+    weighted: bool,
     t: u64,
     expander: u64,
     seeds0: &[u8],
@@ -181,6 +188,7 @@ pub fn search(
     unsafe {
         library::tally_search(
             n,
+            weighted,
             t,
             expander,
             seeds0.as_ptr(),

@@ -16,6 +16,7 @@ extern "C" {
     pub fn tally_key(
         n: u64,
         expander: u64,
+        weight: i16,
         string: *const u8,
         string_length: usize,
         seed0: *const u8,
@@ -51,6 +52,7 @@ extern "C" {
 
     pub fn tally_combine(
         n: u64,
+        weighted: bool,
         t: u64,
         query: *const u8,
         query_length: usize,
@@ -62,12 +64,13 @@ extern "C" {
         out_length: usize,
     ) -> CombineReply;
 
-    pub fn tally_record_space(n: u64, t: u64, reports: u64) -> u64;
+    pub fn tally_record_space(n: u64, weighted: bool, t: u64, reports: u64) -> u64;
 
-    pub fn tally_list_space(n: u64, t: u64, reports: u64) -> u64;
+    pub fn tally_list_space(n: u64, weighted: bool, t: u64, reports: u64) -> u64;
 
     pub fn tally_search(
         n: u64,
+        weighted: bool,
         t: u64,
         expander: u64,
         seeds0: *const u8,

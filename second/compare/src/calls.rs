@@ -31,12 +31,12 @@ macro_rules! calls {
 #[cfg(feature = "library")]
 calls! {
     "block" block(expander: u64, seed: &[u8], j: u64, block: &mut [u8]) -> Reply { number, length }
-    "keys" key(n: u64, expander: u64, string: &[u8], seed0: &[u8], seed1: &[u8], out: &mut [u8]) -> Reply { number, length }
+    "keys" key(n: u64, expander: u64, weight: i16, string: &[u8], seed0: &[u8], seed1: &[u8], out: &mut [u8]) -> Reply { number, length }
     "keys" share(n: u64, expander: u64, server: bool, seeds: &[u8], public: &[u8], query: &[u8], out: &mut [u8]) -> Reply { number, length }
     "keys" add(share0: &[u8], share1: &[u8], out: &mut [u8]) -> Reply { number, length }
-    "combine" combine(n: u64, t: u64, query: &[u8], share0: &[u8], share1: &[u8], out: &mut [u8]) -> Combined { number, kind, length }
-    "search" search(n: u64, t: u64, expander: u64, seeds0: &[u8], public0: &[u8], seeds1: &[u8], public1: &[u8], record: &mut [u8],
-        list: &mut [u8]) -> Found { number, record_length, list_length }
+    "combine" combine(n: u64, weighted: bool, t: u64, query: &[u8], share0: &[u8], share1: &[u8], out: &mut [u8]) -> Combined { number, kind, length }
+    "search" search(n: u64, weighted: bool, t: u64, expander: u64, seeds0: &[u8], public0: &[u8], seeds1: &[u8], public1: &[u8],
+        record: &mut [u8], list: &mut [u8]) -> Found { number, record_length, list_length }
     "exam" exam(text: &[u8], out: &mut [u8]) -> Reply { number, length }
     "exam" respond(text: &[u8], out: &mut [u8]) -> Reply { number, length }
 }

@@ -7,3 +7,4 @@ pub mod make;
 pub mod queries;
 pub mod sheets;
 pub mod tally;
+pub mod weights;

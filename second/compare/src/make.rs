@@ -27,16 +27,6 @@ pub fn bad_n(rng: &mut Rng) -> u64 {
     rng.pick(&[0, 257, 258, 512, 1 << 63, u64::MAX, wild, near, other])
 }
 
-pub fn good_t(rng: &mut Rng) -> u64 {
-    let any = 1 + rng.below(65_535) as u64;
-    rng.pick(&[1, 1, 2, 2, 3, 4, 65_534, 65_535, any])
-}
-
-pub fn bad_t(rng: &mut Rng) -> u64 {
-    let wild = rng.number() | 1 << 20;
-    rng.pick(&[0, 0, 65_536, 65_537, 1 << 32, 1 << 63, u64::MAX, wild])
-}
-
 pub fn good_expander(rng: &mut Rng) -> u64 {
     1 + rng.below(2) as u64
 }
@@ -52,7 +42,7 @@ pub fn bad_expander(rng: &mut Rng) -> u64 {
 pub fn any_number(rng: &mut Rng) -> u64 {
     let wild = rng.number();
     let edge = rng.pick(&[0, 1, 2, 3, 8, 9, 31, 32, 255, 256, 257, 65_535, 65_536]);
-    let high = rng.pick(&[1 << 32, 1 << 63, u64::MAX - 1, u64::MAX]);
+    let high = rng.pick(&[1 << 31, 1 << 32, 1 << 63, u64::MAX - 1, u64::MAX]);
     rng.pick(&[edge, edge, edge, edge, high, wild])
 }
 
@@ -125,8 +115,19 @@ pub struct Reports {
     pub public: Vec<u8>,
 }
 
-/// Honest reports, many with strings in common.
+/// Honest reports of weight one, many with strings in common.
 pub fn reports(rng: &mut Rng, n: usize, expander: u64, count: usize) -> Reports {
+    weighted_reports(rng, n, expander, count, |_| 1)
+}
+
+/// Honest reports of these weights, many with strings in common.
+pub fn weighted_reports(
+    rng: &mut Rng,
+    n: usize,
+    expander: u64,
+    count: usize,
+    weight: impl Fn(&mut Rng) -> i16,
+) -> Reports {
     let mut made = Reports::none(n);
     for i in 0..count {
         let mut string = rng.bits(n);
@@ -136,7 +137,8 @@ pub fn reports(rng: &mut Rng, n: usize, expander: u64, count: usize) -> Reports 
                 *bit = rng.coin();
             }
         }
-        made.add(rng, expander, string);
+        let weight = weight(rng);
+        made.add(rng, expander, weight, string);
     }
     made
 }
@@ -151,20 +153,27 @@ impl Reports {
         }
     }
 
-    pub fn add(&mut self, rng: &mut Rng, expander: u64, string: Vec<bool>) {
+    pub fn add(&mut self, rng: &mut Rng, expander: u64, weight: i16, string: Vec<bool>) {
         let s0 = seed(rng);
         let s1 = if rng.below(6) == 0 {
             s0.clone()
         } else {
             seed(rng)
         };
-        self.add_with(expander, string, [s0, s1]);
+        self.add_with(expander, weight, string, [s0, s1]);
     }
 
-    pub fn add_with(&mut self, expander: u64, string: Vec<bool>, [s0, s1]: [Vec<u8>; 2]) {
+    pub fn add_with(
+        &mut self,
+        expander: u64,
+        weight: i16,
+        string: Vec<bool>,
+        [s0, s1]: [Vec<u8>; 2],
+    ) {
         let mut share = vec![0; public_share_size(self.n)];
         let packed = pack(&string);
-        let reply = second::key(self.n as u64, expander, &packed, &s0, &s1, &mut share);
+        let n = self.n as u64;
+        let reply = second::key(n, expander, weight, &packed, &s0, &s1, &mut share);
         assert_eq!(reply.number, 0);
         self.public.extend(share);
         self.seeds[0].extend(s0);

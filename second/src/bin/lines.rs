@@ -1,4 +1,4 @@
-//! Keys and shares of chosen strings, and whole searches, as lines.
+//! Keys and shares of chosen strings, and whole searches, as lines; weighted ones at the end.
 
 use second::keys::public_share_size;
 use second::query::{first, pack, write};
@@ -27,10 +27,56 @@ fn main() {
     ] {
         let mut record = [255u8; 24];
         let mut list = [255u8; 1];
-        let found = search(n, t, 2, &[], &[], &[], &[], &mut record, &mut list);
+        let found = search(n, false, t, 2, &[], &[], &[], &[], &mut record, &mut list);
         show(label, found, &record, &list);
     }
     longest(1);
+    for weight in [-32_768, 0, 32_767] {
+        for expander in [1, 2] {
+            weighted_key(weight, expander);
+        }
+    }
+    weighted_search();
+}
+
+/// The key of the string 101 for a weight.
+fn weighted_key(weight: i16, expander: u64) {
+    let seed0: Vec<u8> = (0..16).collect();
+    let seed1: Vec<u8> = (16..32).collect();
+    let mut public = vec![0u8; public_share_size(3)];
+    let made = key(3, expander, weight, &[0xa0], &seed0, &seed1, &mut public);
+    assert_eq!((made.number, made.length), (0, public.len() as u64));
+    println!("key weight {weight} {expander} 3 {}", hex(&public));
+}
+
+/// A weighted search of four strings of two bits, t = 2, with expander 2.
+fn weighted_search() {
+    let (mut seeds0, mut seeds1, mut shares) = (vec![], vec![], vec![]);
+    let reports = [(0x40u8, 5i16), (0x40, -2), (0xc0, -7), (0x80, 4)];
+    for (i, (string, weight)) in reports.into_iter().enumerate() {
+        let [seed0, seed1] = [1, 2].map(|more| [2 * i as u8 + more; 16]);
+        let mut public = vec![0u8; public_share_size(2)];
+        let made = key(2, 2, weight, &[string], &seed0, &seed1, &mut public);
+        assert_eq!((made.number, made.length), (0, 49));
+        seeds0.extend(seed0);
+        seeds1.extend(seed1);
+        shares.extend(public);
+    }
+    let mut record = [255u8; 48];
+    let mut list = [255u8; 1];
+    let found = search(
+        2,
+        true,
+        2,
+        2,
+        &seeds0,
+        &shares,
+        &seeds1,
+        &shares,
+        &mut record,
+        &mut list,
+    );
+    show("weighted", found, &record, &list);
 }
 
 /// The line of a search: its label, number, record and list.
@@ -64,6 +110,7 @@ fn examples(expander: u64) {
             let made = key(
                 2,
                 expander,
+                1,
                 &[string],
                 s0,
                 s1,
@@ -75,6 +122,7 @@ fn examples(expander: u64) {
         let mut list = [255u8; 1];
         let found = search(
             2,
+            false,
             2,
             expander,
             &seeds0,
@@ -103,7 +151,7 @@ fn one_bit() {
         ("I p", one, Some(p)),
     ] {
         let mut public = vec![0u8; public_share_size(1)];
-        key(1, 2, &[0x80], &zero, &seed1, &mut public);
+        key(1, 2, 1, &[0x80], &zero, &seed1, &mut public);
         if let Some(payload) = payload {
             public[17..].copy_from_slice(&payload.to_le_bytes());
         }
@@ -111,6 +159,7 @@ fn one_bit() {
         let mut list = [255u8; 2];
         let found = search(
             1,
+            false,
             1,
             2,
             &zero,
@@ -134,11 +183,12 @@ fn longest(expander: u64) {
     let seed0: Vec<u8> = (0..16).collect();
     let seed1: Vec<u8> = (16..32).collect();
     let mut share = vec![0u8; public_share_size(256)];
-    key(256, expander, &string, &seed0, &seed1, &mut share);
+    key(256, expander, 1, &string, &seed0, &seed1, &mut share);
     let mut record = vec![0u8; 14_080];
     let mut list = [0u8; 32];
     let found = search(
         256,
+        false,
         1,
         expander,
         &seed0,
@@ -161,7 +211,7 @@ fn print(expander: u64, n: usize) {
     let seed0: Vec<u8> = (0..16).collect();
     let seed1: Vec<u8> = (16..32).collect();
     let mut public = vec![0u8; public_share_size(n)];
-    let made = key(n as u64, expander, &string, &seed0, &seed1, &mut public);
+    let made = key(n as u64, expander, 1, &string, &seed0, &seed1, &mut public);
     assert_eq!((made.number, made.length), (0, public.len() as u64));
     println!("key {expander} {n} {}", hex(&public));
     for (server, seed) in [(false, &seed0), (true, &seed1)] {

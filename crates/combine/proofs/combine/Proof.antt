@@ -23,10 +23,10 @@ start c = c .before .before .before .before .before .before
 byte : (c : tie.Else1) (i : ℕ) → getD (start c .args .query .now) i 0 < 256
 byte c i = omega (arith, c .before .before .before .before .before .shared-slice-known .given i)
 
-all-well : (c : tie.Else1) → Ready (start c .args .n) (start c .args .t) (start c .args .query .now) (start c .args .share0 .now) (start c .args .share1 .now)
+all-well : (c : tie.Else1) → Ready (start c .args .n) (start c .args .weighted) (start c .args .t) (start c .args .query .now) (start c .args .share0 .now) (start c .args .share1 .now)
 all-well c =
     let a = start c .args in
-    ready (a .n) (a .t) (a .query .now) (a .share0 .now) (a .share1 .now) (sym (c .before .first-cause .ensures) ∙ c .if1 .left)
+    ready (a .n) (a .weighted) (a .t) (a .query .now) (a .share0 .now) (a .share1 .now) (sym (c .before .first-cause .ensures) ∙ c .if1 .left)
 
 -- how many are kept, and how long they are
 few : (c : tie.After-count-kept) → c .count-kept .result ≤ limit
@@ -58,8 +58,8 @@ returns : tie.Need-returns
 returns c =
     let k = c .before in
     let a = k .before .before .before .before .before .args in
-    told-exit (a .n) (a .t) (a .query .now) (a .share0 .now) (a .share1 .now) (a .out .now) _ _
-    (told-lent (a .n) (a .t) (a .query .now) (a .share0 .now) (a .share1 .now) (a .out .now) (k .first-cause .result) (k .first-cause .ensures) (c .if1 .taken))
+    told-exit (a .n) (a .weighted) (a .t) (a .query .now) (a .share0 .now) (a .share1 .now) (a .out .now) _ _
+    (told-lent (a .n) (a .weighted) (a .t) (a .query .now) (a .share0 .now) (a .share1 .now) (a .out .now) (k .first-cause .result) (k .first-cause .ensures) (c .if1 .taken))
 
 count-kept-requires : tie.Need-count-kept-requires
 count-kept-requires c κs = let r = all-well (c .before) in r .first ∙ sym (r .second)
@@ -75,8 +75,8 @@ returns-2 c =
     let k = w .before .before in
     let e = k .before .before in
     let a = start e .args in
-    told-exit (a .n) (a .t) (a .query .now) (a .share0 .now) (a .share1 .now) (a .out .now) _ _
-    (list-short (a .n) (a .t) (a .query .now) (a .share0 .now) (a .share1 .now) (a .out .now) (byte e) (all-well e)
+    told-exit (a .n) (a .weighted) (a .t) (a .query .now) (a .share0 .now) (a .share1 .now) (a .out .now) _ _
+    (list-short (a .n) (a .weighted) (a .t) (a .query .now) (a .share0 .now) (a .share1 .now) (a .out .now) (byte e) (all-well e)
     (k .count-kept .result) (k .count-kept .ensures .0) (k .before .prefix-length .result) (k .before .prefix-length .ensures .0)
     (w .before .if2 .taken) (w .packed-length .result) (w .packed-length .ensures) (c .if3 .taken))
 
@@ -89,7 +89,7 @@ write-kept-requires c κs =
     let r = all-well e in
     let q = query-ready (a .n) (a .query .now) (r .a-query) in
     let size =
-    list-bytes (a .n) (a .t) (a .query .now) (a .share0 .now) (a .share1 .now) (a .out .now) (byte e) (all-well e)
+    list-bytes (a .n) (a .weighted) (a .t) (a .query .now) (a .share0 .now) (a .share1 .now) (a .out .now) (byte e) (all-well e)
     (k .count-kept .result) (k .count-kept .ensures .0) (k .before .prefix-length .result) (k .before .prefix-length .ensures .0)
     (w .before .if2 .taken) (w .packed-length .result) (w .packed-length .ensures) in
     (omega (arith, q .whole), (q .no-spares, ((r .first, r .second), omega (arith, size, c .before .if3 .left))))
@@ -101,8 +101,8 @@ returns-3 c =
     let k = w .before .before in
     let e = k .before .before in
     let a = start e .args in
-    told-exit (a .n) (a .t) (a .query .now) (a .share0 .now) (a .share1 .now) (a .out .now) _ _
-    (list-told (a .n) (a .t) (a .query .now) (a .share0 .now) (a .share1 .now) (a .out .now) (byte e) (all-well e)
+    told-exit (a .n) (a .weighted) (a .t) (a .query .now) (a .share0 .now) (a .share1 .now) (a .out .now) _ _
+    (list-told (a .n) (a .weighted) (a .t) (a .query .now) (a .share0 .now) (a .share1 .now) (a .out .now) (byte e) (all-well e)
     (k .count-kept .result) (k .count-kept .ensures .0) (k .before .prefix-length .result) (k .before .prefix-length .ensures .0)
     (w .before .if2 .taken) (w .packed-length .result) (w .packed-length .ensures) (f .if3 .left) _ (c .before .before .write-kept .ensures))
 
@@ -111,8 +111,8 @@ returns-4 c =
     let k = c .before .before in
     let e = k .before .before in
     let a = start e .args in
-    told-exit (a .n) (a .t) (a .query .now) (a .share0 .now) (a .share1 .now) (a .out .now) _ _
-    (ended-told (a .n) (a .t) (a .query .now) (a .share0 .now) (a .share1 .now) (a .out .now) (byte e) (all-well e)
+    told-exit (a .n) (a .weighted) (a .t) (a .query .now) (a .share0 .now) (a .share1 .now) (a .out .now) _ _
+    (ended-told (a .n) (a .weighted) (a .t) (a .query .now) (a .share0 .now) (a .share1 .now) (a .out .now) (byte e) (all-well e)
     (k .count-kept .result) (k .count-kept .ensures .0) (k .before .prefix-length .result) (k .before .prefix-length .ensures .0)
     (c .before .if2 .left) (c .if4 .taken))
 
@@ -121,8 +121,8 @@ returns-5 c =
     let k = c .before .before .before in
     let e = k .before .before in
     let a = start e .args in
-    told-exit (a .n) (a .t) (a .query .now) (a .share0 .now) (a .share1 .now) (a .out .now) _ _
-    (too-many (a .n) (a .t) (a .query .now) (a .share0 .now) (a .share1 .now) (a .out .now) (byte e) (all-well e)
+    told-exit (a .n) (a .weighted) (a .t) (a .query .now) (a .share0 .now) (a .share1 .now) (a .out .now) _ _
+    (too-many (a .n) (a .weighted) (a .t) (a .query .now) (a .share0 .now) (a .share1 .now) (a .out .now) (byte e) (all-well e)
     (k .count-kept .result) (k .count-kept .ensures .0) (k .before .prefix-length .result) (k .before .prefix-length .ensures .0)
     (c .before .before .if2 .left) (c .before .if4 .left) (c .if5 .taken))
 
@@ -138,8 +138,8 @@ returns-6 c =
     let k = w .before .before .before .before in
     let e = k .before .before in
     let a = start e .args in
-    told-exit (a .n) (a .t) (a .query .now) (a .share0 .now) (a .share1 .now) (a .out .now) _ _
-    (next-short (a .n) (a .t) (a .query .now) (a .share0 .now) (a .share1 .now) (a .out .now) (byte e) (all-well e)
+    told-exit (a .n) (a .weighted) (a .t) (a .query .now) (a .share0 .now) (a .share1 .now) (a .out .now) _ _
+    (next-short (a .n) (a .weighted) (a .t) (a .query .now) (a .share0 .now) (a .share1 .now) (a .out .now) (byte e) (all-well e)
     (k .count-kept .result) (k .count-kept .ensures .0) (k .before .prefix-length .result) (k .before .prefix-length .ensures .0)
     (w .before .before .before .if2 .left) (w .before .before .if4 .left) (w .packed-length2 .result) (child w) (c .if6 .taken))
 
@@ -153,7 +153,7 @@ write-kept-requires-2 c κs =
     let r = all-well e in
     let h = c .before .before .before .write-fields in
     let size =
-    children-bytes (a .n) (a .t) (a .query .now) (a .share0 .now) (a .share1 .now) (a .out .now) (byte e) (all-well e)
+    children-bytes (a .n) (a .weighted) (a .t) (a .query .now) (a .share0 .now) (a .share1 .now) (a .out .now) (byte e) (all-well e)
     (k .count-kept .result) (k .count-kept .ensures .0) (k .before .prefix-length .result) (k .before .prefix-length .ensures .0)
     (w .before .before .before .if2 .left) (w .before .before .if4 .left) (w .packed-length2 .result) (child w) in (
       omega (arith, query-ready (a .n) (a .query .now) (r .a-query) .whole),
@@ -168,8 +168,8 @@ returns-7 c =
     let k = w .before .before .before .before in
     let e = k .before .before in
     let a = start e .args in
-    told-exit (a .n) (a .t) (a .query .now) (a .share0 .now) (a .share1 .now) (a .out .now) _ _
-    (next-told (a .n) (a .t) (a .query .now) (a .share0 .now) (a .share1 .now) (a .out .now) (byte e) (all-well e)
+    told-exit (a .n) (a .weighted) (a .t) (a .query .now) (a .share0 .now) (a .share1 .now) (a .out .now) _ _
+    (next-told (a .n) (a .weighted) (a .t) (a .query .now) (a .share0 .now) (a .share1 .now) (a .out .now) (byte e) (all-well e)
     (k .count-kept .result) (k .count-kept .ensures .0) (k .before .prefix-length .result) (k .before .prefix-length .ensures .0)
     (w .before .before .before .if2 .left) (w .before .before .if4 .left) (w .packed-length2 .result) (child w) (w .before .if5 .left) (f .if6 .left) _ _
     (h .write-fields .ensures) (c .before .before .write-kept2 .ensures))

@@ -50,7 +50,7 @@ module _ (p : tie.After-public-share-length) where
   abbrev s : tie.Start
   s = start before
 
-  share : length (take (p .public-share-length .result) (made .make-key .last .1 .1 .1 .1 .1 .0)) ≡ publicShareLength (s .args .n)
+  share : length (take (p .public-share-length .result) (made .make-key .last .1 .1 .1 .1 .1 .1 .0)) ≡ publicShareLength (s .args .n)
   share =
       let a = s .args in
       let r = read before .read-line .ensures in
@@ -58,7 +58,7 @@ module _ (p : tie.After-public-share-length) where
       (s .pre .1 .0) (ap (λ (x : Exit). x .area) (made .make-key .ensures)) _ (p .public-share-length .ensures)
 
   whole : page (s .args .e) (s .args .n) (unpack (s .args .n) (take (before .packed-length .result) (read before .read-line .result .string))) (read before .read-line .result .seed0)
-      (read before .read-line .result .seed1) (take (p .public-share-length .result) (made .make-key .last .1 .1 .1 .1 .1 .0))
+      (read before .read-line .result .seed1) (take (p .public-share-length .result) (made .make-key .last .1 .1 .1 .1 .1 .1 .0))
       ≡ linePage (s .args .n) (line s) (s .args .e)
   whole =
       let a = s .args in

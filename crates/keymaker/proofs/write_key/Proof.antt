@@ -12,13 +12,13 @@ use Rattle.keymaker.proofs.write_key.Statement.{statement}
 use Rattle.keymaker.proofs.write_key.Tie as tie
 
 abbrev Inv-loop : tie.InvT-loop
-Inv-loop e n string out₀ nodes₀ k₀ out nodes k = Standing e n string (nodes₀ .node0 .seed) (nodes₀ .node1 .seed) out₀ k (nodeOf (nodes .node0)) (nodeOf (nodes .node1)) out
+Inv-loop e n weight string out₀ nodes₀ k₀ out nodes k = Standing e n weight string (nodes₀ .node0 .seed) (nodes₀ .node1 .seed) out₀ k (nodeOf (nodes .node0)) (nodeOf (nodes .node1)) out
 
 abbrev μ-loop : tie.MeasureT-loop
-μ-loop e n string out₀ nodes₀ k₀ out nodes k = n - k
+μ-loop e n weight string out₀ nodes₀ k₀ out nodes k = n - k
 
 loop-holds : tie.Need-loop-holds Inv-loop μ-loop
-loop-holds c = let a = c .before .before .args in standing-start (a .e) (a .n) (a .string .now) (a .seed0) (a .seed1) (a .out .now)
+loop-holds c = let a = c .before .before .args in standing-start (a .e) (a .n) (a .weight) (a .string .now) (a .seed0) (a .seed1) (a .out .now)
 
 put-control-requires : tie.Need-put-control-requires Inv-loop μ-loop
 put-control-requires c κs = omega (arith, c .before .before .before .before .before .loop .inv .written .size, c .before .before .before .before .before .before .before .before .pre .0, c .before .before .before .before .loop-test .taken)
@@ -35,7 +35,7 @@ loop-again c =
     let l = c .before .before .before .before .before .before .before .before .before .before .before .before .before .before .loop in
     let n = c .before .before .before .before .before .before .before .before .before .before .before .next-level in
     let w = correctionOf (n .result .word) in
-    standing-more (a .e) (a .n) (a .string .now) (a .seed0) (a .seed1) (s .pre .1) (s .pre .2) (a .out .now) (s .pre .0) (l .k) (c .before .before .before .before .before .before .before .before .before .before .before .before .before .loop-test .taken)
+    standing-more (a .e) (a .n) (a .weight) (a .string .now) (a .seed0) (a .seed1) (s .pre .1) (s .pre .2) (a .out .now) (s .pre .0) (l .k) (c .before .before .before .before .before .before .before .before .before .before .before .before .before .loop-test .taken)
     (nodeOf (l .nodes .node0)) (nodeOf (l .nodes .node1)) (l .out) (l .inv) (c .before .before .before .before .before .before .before .before .before .before .before .before .bit-at .result) (c .before .before .before .before .before .before .before .before .before .before .before .before .bit-at .ensures) w (n .ensures .0)
     (c .before .before .before .before .before .before .before .before .put-control .last .0) (c .before .before .before .put-word .last .0) (c .before .before .before .before .before .before .before .before .put-control .ensures)
     (c .before .before .before .put-word .ensures ∙ ap (λ (z : ℕ). putAt (c .before .before .before .before .before .before .before .before .put-control .last .0) z (levelBytes w)) (c .before .before .before .before .level-start .ensures))
@@ -49,7 +49,7 @@ returns c =
     let s = c .before .before .before .before in
     let a = s .args in
     let l = c .before .loop in
-    standing-end (a .e) (a .n) (a .string .now) (a .seed0) (a .seed1) (s .pre .1) (s .pre .2) (a .out .now) (s .pre .0) (l .k) (nodeOf (l .nodes .node0)) (nodeOf (l .nodes .node1)) (l .out) (l .inv) (c .loop-test .left)
+    standing-end (a .e) (a .n) (a .weight) (a .string .now) (a .seed0) (a .seed1) (s .pre .1) (s .pre .2) (a .out .now) (s .pre .0) (l .k) (nodeOf (l .nodes .node0)) (nodeOf (l .nodes .node1)) (l .out) (l .inv) (c .loop-test .left)
 
 pub write-key-spec : {M : Type 1} → statement M
 write-key-spec =

@@ -16,7 +16,7 @@ start f = f .before .before .before .before .before .before .before
 abbrev lend : tie.After-first-cause → Lent
 lend f =
     let a = start f .args in
-    lent (a .n) (a .t) (a .expander) (a .seeds0 .now) (a .public-shares0 .now) (a .seeds1 .now) (a .public-shares1 .now) (a .«record» .now) (a .list .now)
+    lent (a .n) (a .weighted) (a .t) (a .expander) (a .seeds0 .now) (a .public-shares0 .now) (a .seeds1 .now) (a .public-shares1 .now) (a .«record» .now) (a .list .now)
 
 -- no cause of what is lent applies
 clear : (c : tie.Else1) → numberDue (lentCauses (lend (c .before))) ≡ 0

@@ -1,6 +1,6 @@
 -- `exam_answering::solving::print_answer` meets its contract: what is lent to the search are the sheet's own reports.
 use mathlib.Core.Path.{_≡_, refl, sym, ap, ap₂, subst, _∙_}
-use mathlib.Core.Bool.{true}
+use mathlib.Core.Bool.{true, false}
 use mathlib.Core.List.{List}
 use Prim.Native.Nat.{ℕ, _*_, _≤_}
 use native.Mathlib.Omega.{arith}
@@ -106,7 +106,7 @@ abbrev lentTo : tie.After-public-share-length → Lent
 lentTo k =
     let a = start k .args in
     let m = k .public-share-length .result * a .count in
-    lent (a .n) (a .t) (a .expander) (take (16 * a .count) (first k)) (take m (third k)) (take (16 * a .count) (second k)) (take m (third k)) (a .area .now) (a .list .now)
+    lent (a .n) false (a .t) (a .expander) (take (16 * a .count) (first k)) (take m (third k)) (take (16 * a .count) (second k)) (take m (third k)) (a .area .now) (a .list .now)
 
 same-search : (k : tie.After-public-share-length) → lentTo k ≡ asked (start k)
 same-search k =

@@ -1,5 +1,6 @@
 -- `exam_answering::solving::search_printed` meets its contract: what is printed is what is read of the search.
 use mathlib.Core.Path.{_≡_, sym, ap, ap₂, _∙_}
+use mathlib.Core.Bool.{false}
 use mathlib.Core.List.{List}
 use Prim.Native.Nat.{ℕ}
 use native.Mathlib.Omega.{arith}
@@ -23,13 +24,13 @@ start k = k .before .before .before .before .before .before .before .before .bef
 abbrev asked : tie.After-search → Lent
 asked k =
     let a = start k .args in
-    lent (a .n) (a .t) (a .expander) (a .seeds0 .now) (a .shares .now) (a .seeds1 .now) (a .shares .now) (a .area .now) (a .list .now)
+    lent (a .n) false (a .t) (a .expander) (a .seeds0 .now) (a .shares .now) (a .seeds1 .now) (a .shares .now) (a .area .now) (a .list .now)
 
 abbrev recorded : tie.After-search → List ℕ
-recorded k = k .search .last .1 .1 .1 .1 .1 .1 .1 .0
+recorded k = k .search .last .1 .1 .1 .1 .1 .1 .1 .1 .0
 
 abbrev listed : tie.After-search → List ℕ
-listed k = k .search .last .1 .1 .1 .1 .1 .1 .1 .1 .0
+listed k = k .search .last .1 .1 .1 .1 .1 .1 .1 .1 .1 .0
 
 record-told : (k : tie.After-search) → k .search .result .«record_length» ≡ recordLength (asked k)
 record-told k = ap (λ (x : Ending). x .recordLength) (k .search .ensures)

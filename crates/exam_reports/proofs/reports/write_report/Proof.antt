@@ -6,6 +6,7 @@ use lib.ListN.{length, take}
 use lib.Seq.{length-take-le}
 use Rattle.places.specs.Places.{putAt}
 use Rattle.point.specs.PublicShare.{publicShareLength}
+use lib.IntN.{pos}
 use Rattle.keymaker.specs.Key.{keyOutcome}
 use Rattle.exam_text.specs.Sheet.{Line}
 use Rattle.exam_text.specs.Reader.{lineAt}
@@ -36,7 +37,7 @@ sound k = let a = start k .args in stands-sound (a .n) (a .at) (a .text .now) (s
 
 -- the key of what was read is that of the line
 made : (k : tie.After-public-share-length) → let r = read k .read-line .result in let a = start k .args in
-    keyOutcome (a .n) (a .expander) (take (packed k .packed-length .result) (r .string)) (r .seed0) (r .seed1) (publicShareLength (a .n)) .written
+    keyOutcome (a .n) (a .expander) (pos 1) (take (packed k .packed-length .result) (r .string)) (r .seed0) (r .seed1) (publicShareLength (a .n)) .written
     ≡ publicShareFor (a .n) (a .expander) (line k)
 made k =
     let e = read k .read-line .ensures in

@@ -6,7 +6,7 @@ use borrow.Author.Needs.{needs}
 use Rattle.calls.specs.Bounds.{mostBits}
 use Rattle.calls.specs.Causes.{Cause}
 use Rattle.calls.proofs.Decisions.{bounds}
-use Rattle.calls.proofs.Judged.{Clear, first-due, second-due, number-clear}
+use Rattle.calls.proofs.Judged.{Clear, first-due, second-due, number-clear, threshold-numbered}
 use Rattle.search.specs.Search.{settingsCauses, amountCauses, publicShareCauses}
 use Rattle.search.proofs.checks.first_cause.Statement.{statement}
 use Rattle.search.proofs.checks.first_cause.Tie as tie
@@ -17,7 +17,7 @@ begin c = c .before .before .before .before .before .before
 -- the three groups of causes
 module _ (s : tie.Start) where
   abbrev first : List Cause
-  first = let a = s .args in settingsCauses (a .n) (a .t) (a .expander)
+  first = let a = s .args in settingsCauses (a .n) (a .weighted) (a .t) (a .expander)
 
   abbrev second : List Cause
   second = let a = s .args in amountCauses (a .n) (a .seeds0 .now) (a .shares0 .now) (a .seeds1 .now) (a .shares1 .now)
@@ -27,7 +27,7 @@ module _ (s : tie.Start) where
 
 -- no cause of the settings applies
 settings : (c : tie.Else1) → Clear (first (begin c))
-settings c = number-clear (first (begin c)) (omega arith, (omega arith, (omega arith, tt))) (sym (c .before .settings-cause .ensures) ∙ c .if1 .left)
+settings c = number-clear (first (begin c)) (omega arith, (threshold-numbered (begin c .args .weighted), (omega arith, tt))) (sym (c .before .settings-cause .ensures) ∙ c .if1 .left)
 
 -- none of how much is lent does
 lengths : (c : tie.Else2) → Clear (second (begin (c .before .before)))

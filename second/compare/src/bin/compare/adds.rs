@@ -5,6 +5,7 @@ use compare::calls;
 use compare::make::*;
 use compare::queries;
 use compare::tally::{shown, Outcome, Plan, Space, Tally};
+use compare::weights::weight;
 use second::field::{read, reduce, P};
 use second::keys::public_share_size;
 use second::query::{first, Query};
@@ -155,7 +156,7 @@ fn splits(rng: &mut Rng, tally: &mut Tally) {
         ] {
             let n = good_n(rng, false) as usize;
             let count = rng.below(if n > 200 { 4 } else { 9 });
-            let mut all = reports(rng, n, expander, count);
+            let mut all = weighted_reports(rng, n, expander, count, weight);
             if i % 2 == 1 {
                 all.public = rng.bytes(all.public.len());
                 pass_six_and_seven(&mut all.public, n);

@@ -1,4 +1,4 @@
-//! Fixed calls of combining, each with the number, kind and length it must give.
+//! Fixed calls of unweighted combining, each with the number, kind and length it must give.
 
 use crate::combines::Call;
 use compare::queries;
@@ -29,12 +29,12 @@ pub fn each(mut take: impl FnMut(&'static str, [u64; 3], Call)) {
     }
 }
 
-fn refused(number: u64) -> [u64; 3] {
+pub fn refused(number: u64) -> [u64; 3] {
     [number, 0, 0]
 }
 
 /// Bytes of the next query or, at length n, of the list.
-fn size(n: usize, length: usize, kept: usize) -> usize {
+pub fn size(n: usize, length: usize, kept: usize) -> usize {
     match (length == n, kept) {
         (true, _) => kept * packed_size(length),
         (false, 0) => 0,
@@ -43,7 +43,7 @@ fn size(n: usize, length: usize, kept: usize) -> usize {
 }
 
 /// What a call with so many kept gives when it has the space.
-fn passed(n: usize, length: usize, kept: usize) -> [u64; 3] {
+pub fn passed(n: usize, length: usize, kept: usize) -> [u64; 3] {
     let kind = match (length == n, kept) {
         (true, _) => 2,
         (false, 0) => 3,
@@ -53,10 +53,10 @@ fn passed(n: usize, length: usize, kept: usize) -> [u64; 3] {
 }
 
 /// The ways a total comes about, with and without a sum past p.
-const WAYS: usize = 6;
+pub const WAYS: usize = 6;
 
 /// Two numbers with this total.
-fn pair(total: u64, way: usize) -> (u64, u64) {
+pub fn pair(total: u64, way: usize) -> (u64, u64) {
     let part = match way % WAYS {
         0 => 0,
         1 => total,
@@ -69,7 +69,7 @@ fn pair(total: u64, way: usize) -> (u64, u64) {
 }
 
 /// Two shares with these totals, each come about in another way.
-fn split(totals: &[u64]) -> [Vec<u8>; 2] {
+pub fn split(totals: &[u64]) -> [Vec<u8>; 2] {
     let pairs = || totals.iter().enumerate().map(|(i, &total)| pair(total, i));
     [
         pairs().flat_map(|(a, _)| a.to_le_bytes()).collect(),
@@ -170,6 +170,7 @@ fn large(n: usize, length: usize, count: usize, lent: usize, kept: usize, room: 
         .collect();
     Call {
         n: n as u64,
+        weighted: false,
         t,
         query: queries::long(length, count),
         shares: split(&totals),
@@ -214,6 +215,7 @@ fn lengths(n: usize, length: usize, take: Take) {
             let fit = size(n, length, kept);
             let call = |room| Call {
                 n: n as u64,
+                weighted: false,
                 t: 2,
                 query: write(length, asked),
                 shares: split(
@@ -238,6 +240,7 @@ fn lengths(n: usize, length: usize, take: Take) {
     let (n, t, room) = (n as u64, 2, 999);
     let call = Call {
         n,
+        weighted: false,
         t,
         query: longer,
         shares,
@@ -256,6 +259,7 @@ fn totals(t: u64, take: Take) {
                 let (low, other) = (pair(t - 1, way + 1), pair(total, way));
                 let call = Call {
                     n: n as u64,
+                    weighted: false,
                     t,
                     query: first(),
                     shares: [[low.0, other.0], [low.1, other.1]]
@@ -290,6 +294,7 @@ fn share_lengths(take: Take) {
             for room in [0, 99] {
                 let call = Call {
                     n: 2,
+                    weighted: false,
                     t: 1,
                     query: first(),
                     shares: [vec![byte; length0], vec![byte; length1]],
@@ -312,6 +317,7 @@ fn large_numbers(take: Take) {
                 let (n, t, query) = (2, 1, first());
                 let call = Call {
                     n,
+                    weighted: false,
                     t,
                     query,
                     shares,
@@ -470,6 +476,7 @@ fn bad_query(query: &[u8], take: Take) {
             let (query, shares) = (query.to_vec(), [share0.clone(), share1.clone()]);
             let call = Call {
                 n,
+                weighted: false,
                 t,
                 query,
                 shares,

@@ -20,6 +20,8 @@ mod exams;
 #[cfg(feature = "keys")]
 mod keys;
 #[cfg(feature = "search")]
+mod search_call;
+#[cfg(feature = "search")]
 mod search_cases;
 #[cfg(feature = "search")]
 mod search_demands;
@@ -29,6 +31,14 @@ mod searches;
 mod shares;
 #[cfg(feature = "search")]
 mod spaces;
+#[cfg(feature = "combine")]
+mod weighted_combine_cases;
+#[cfg(feature = "search")]
+mod weighted_demands;
+#[cfg(feature = "search")]
+mod weighted_largest;
+#[cfg(feature = "search")]
+mod weighted_search_cases;
 
 use compare::{calls, tally};
 use std::process::ExitCode;
@@ -46,12 +56,12 @@ const NUMBERS: [(&str, bool, &[u64]); 10] = [
     (
         "combine",
         cfg!(feature = "combine"),
-        &[0, 1, 2, 4, 6, 9, 11],
+        &[0, 1, 2, 4, 6, 9, 11, 12],
     ),
     (
         "search",
         cfg!(feature = "search"),
-        &[0, 1, 2, 3, 4, 5, 6, 7, 8, 11],
+        &[0, 1, 2, 3, 4, 5, 6, 7, 8, 11, 12],
     ),
     ("record space", cfg!(feature = "search"), &[0]),
     ("list space", cfg!(feature = "search"), &[0]),

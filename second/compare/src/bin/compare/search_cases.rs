@@ -1,4 +1,4 @@
-//! Fixed calls of the whole search, each with what it must give where document 01 says it.
+//! Fixed calls of the whole unweighted search, each with what it must give where document 01 says it.
 //!
 //! Honest reports of few and many bits; the sheet's A and D to J; areas around the fit; totals of
 //! any size, light parents of heavy children; every byte of a report changed; hostile reports;
@@ -45,7 +45,7 @@ impl Wanted {
 }
 
 /// What takes each call: its name, what it must give, the call.
-type Take<'a> = &'a mut dyn FnMut(&'static str, Wanted, Call);
+pub type Take<'a> = &'a mut dyn FnMut(&'static str, Wanted, Call);
 
 /// Hands over every fixed call.
 pub fn each(mut take: impl FnMut(&'static str, Wanted, Call)) {
@@ -64,13 +64,13 @@ pub fn each(mut take: impl FnMut(&'static str, Wanted, Call)) {
 }
 
 /// A string with the totals its report is to give at its prefixes; honest where each is 1.
-struct Report {
-    string: Vec<bool>,
-    totals: Vec<u64>,
+pub struct Report {
+    pub string: Vec<bool>,
+    pub totals: Vec<u64>,
 }
 
 impl Report {
-    fn honest(string: &[bool]) -> Report {
+    pub fn honest(string: &[bool]) -> Report {
         Report {
             string: string.to_vec(),
             totals: vec![1; string.len()],
@@ -78,24 +78,24 @@ impl Report {
     }
 }
 
-fn bits(text: &str) -> Vec<bool> {
+pub fn bits(text: &str) -> Vec<bool> {
     text.chars().map(|c| c == '1').collect()
 }
 
 /// A search and what it must write, from strings and totals without keys.
-struct Search {
-    call: Call,
-    record: Vec<u8>,
+pub struct Search {
+    pub call: Call,
+    pub record: Vec<u8>,
     /// Where each level ends in the record.
-    ends: Vec<usize>,
-    list: Vec<u8>,
+    pub ends: Vec<usize>,
+    pub list: Vec<u8>,
     /// The nodes that both servers reach one by one.
     nodes: usize,
 }
 
 impl Search {
     /// The search of a call of such reports.
-    fn of(call: Call, reports: &[Report]) -> Search {
+    pub fn of(call: Call, reports: &[Report]) -> Search {
         let (n, t) = (call.n as usize, call.t);
         let (mut record, mut ends, mut list) = (Vec::new(), Vec::new(), Vec::new());
         let mut nodes = 0;
@@ -109,7 +109,8 @@ impl Search {
                 let total = holders.fold(0, |sum, r| add(sum, r.totals[length - 1]));
                 record.extend(total.to_le_bytes());
                 nodes += 2 * length * reports.len();
-                if total >= t {
+                // A total of the upper half is negative in a weighted search.
+                if total >= t && !(call.weighted && total > P / 2) {
                     kept.push(prefix);
                 }
             }
@@ -134,7 +135,7 @@ impl Search {
     }
 
     /// The search of such reports, with seeds of a kind.
-    fn made(
+    pub fn made(
         rng: &mut Rng,
         n: usize,
         t: u64,
@@ -145,7 +146,7 @@ impl Search {
         let mut all = Reports::none(n);
         for (i, report) in reports.iter().enumerate() {
             let mut one = Reports::none(n);
-            one.add_with(expander, report.string.clone(), seeds(rng, kind, i));
+            one.add_with(expander, 1, report.string.clone(), seeds(rng, kind, i));
             give_totals(&mut one, expander, &report.totals);
             for server in 0..2 {
                 all.seeds[server].extend(&one.seeds[server]);
@@ -156,7 +157,7 @@ impl Search {
     }
 
     /// The call with areas of these sizes and what it must give.
-    fn with_areas(&self, record_room: usize, list_room: usize) -> (Wanted, Call) {
+    pub fn with_areas(&self, record_room: usize, list_room: usize) -> (Wanted, Call) {
         let mut call = self.call.clone();
         (call.record_room, call.list_room) = (record_room, list_room);
         if record_room < self.record.len() || list_room < self.list.len() {
@@ -167,17 +168,17 @@ impl Search {
     }
 
     /// Hands over the call with these many bytes more than it needs.
-    fn take_with(&self, name: &'static str, more: usize, take: Take) {
+    pub fn take_with(&self, name: &'static str, more: usize, take: Take) {
         let (wanted, call) = self.with_areas(self.record.len() + more, self.list.len() + more);
         take(name, wanted, call);
     }
 }
 
 /// The kinds of root seeds; the last gives each report another one.
-const KINDS: usize = 7;
+pub const KINDS: usize = 7;
 
 /// The root seeds of report i.
-fn seeds(rng: &mut Rng, kind: usize, i: usize) -> [Vec<u8>; 2] {
+pub fn seeds(rng: &mut Rng, kind: usize, i: usize) -> [Vec<u8>; 2] {
     let one = [vec![1], vec![0; 15]].concat();
     match kind % KINDS {
         0 => [rng.bytes(16), rng.bytes(16)],
@@ -194,7 +195,7 @@ fn seeds(rng: &mut Rng, kind: usize, i: usize) -> [Vec<u8>; 2] {
 }
 
 /// The total of one report at a prefix.
-fn total_at(one: &Reports, expander: u64, prefix: &[bool]) -> u64 {
+pub fn total_at(one: &Reports, expander: u64, prefix: &[bool]) -> u64 {
     let query = write(prefix.len(), &[pack(prefix)]);
     let share = |server: bool| {
         let mut share = [0; 8];
@@ -208,7 +209,7 @@ fn total_at(one: &Reports, expander: u64, prefix: &[bool]) -> u64 {
 }
 
 /// Changes the payload corrections of one honest report until it gives these totals.
-fn give_totals(one: &mut Reports, expander: u64, totals: &[u64]) {
+pub fn give_totals(one: &mut Reports, expander: u64, totals: &[u64]) {
     for (level, &wanted) in totals.iter().enumerate().filter(|(_, &total)| total != 1) {
         let prefix = one.strings[0][..level + 1].to_vec();
         let at = head_size(one.n) + 24 * level + 16;
@@ -225,7 +226,7 @@ fn give_totals(one: &mut Reports, expander: u64, totals: &[u64]) {
 }
 
 /// Bytes of the record and the list when every prefix is kept.
-fn whole_tree(n: usize) -> (usize, usize) {
+pub fn whole_tree(n: usize) -> (usize, usize) {
     let level = |length: usize| 6 + ((packed_size(length) + 8) << length);
     ((1..=n).map(level).sum(), packed_size(n) << n)
 }
@@ -294,7 +295,7 @@ fn sheet(rng: &mut Rng, expander: u64, take: Take) {
 }
 
 /// Strings of which some share half, all but the last bit or nothing.
-fn spread(rng: &mut Rng, n: usize, count: usize) -> Vec<Vec<bool>> {
+pub fn spread(rng: &mut Rng, n: usize, count: usize) -> Vec<Vec<bool>> {
     let base = rng.bits(n);
     let half = [&base[..n / 2], &rng.bits(n - n / 2)].concat();
     let mut last = base.clone();
@@ -537,7 +538,7 @@ fn hostile(rng: &mut Rng, expander: u64, take: Take) {
 }
 
 /// A cause's number and a change of a right call that brings it about.
-type Cause = (u64, fn(&mut Call));
+pub type Cause = (u64, fn(&mut Call));
 
 /// Where the payload correction of the third level stands in the second of two public shares.
 const PAYLOAD: usize = 2 * 73 - 8;
@@ -547,7 +548,7 @@ fn set_number(public: &mut [u8], number: u64) {
 }
 
 /// Changes that bring about a cause in a call of two reports with n = 3 and no room to spare.
-const CAUSES: [Cause; 58] = [
+pub const CAUSES: [Cause; 58] = [
     (1, |call| call.n = 0),
     (1, |call| call.n = 257),
     (1, |call| call.n += 1 << 32),
@@ -740,7 +741,7 @@ fn largest_queries(rng: &mut Rng, take: Take) {
         let mut totals = vec![1; n];
         totals[15] = negate(total_at(&reports, 2, &string[..16]));
         let mut light = Reports::none(n);
-        light.add_with(2, string, [rng.bytes(16), rng.bytes(16)]);
+        light.add_with(2, 1, string, [rng.bytes(16), rng.bytes(16)]);
         give_totals(&mut light, 2, &totals);
         reports.public.extend(light.public);
         for server in 0..2 {

@@ -7,16 +7,35 @@ use second::brute;
 use second::query::{pack, write};
 use second::rng::Rng;
 
-/// How a second collection comes from the first; seeds and expander are drawn again.
-const KINDS: [&str; 8] = [
-    "the same strings",
-    "rearranged",
-    "other below the cuts",
-    "one string's tail other",
-    "equal sets, other multiplicities",
-    "one bit other",
-    "one report more or less",
-    "any other",
+/// How a second collection comes from the first; seeds and expander are drawn again. Beside it its
+/// name in weighted searches, where every weight is one.
+const KINDS: [[&str; 2]; 8] = [
+    ["the same strings", "weighted, the same strings"],
+    ["rearranged", "weighted, rearranged"],
+    ["other below the cuts", "weighted, other below the cuts"],
+    [
+        "one string's tail other",
+        "weighted, one string's tail other",
+    ],
+    [
+        "equal sets, other multiplicities",
+        "weighted, equal sets, other multiplicities",
+    ],
+    ["one bit other", "weighted, one bit other"],
+    [
+        "one report more or less",
+        "weighted, one report more or less",
+    ],
+    ["any other", "weighted, any other"],
+];
+
+/// The names of the pairs and of the collections of few short strings, unweighted and weighted.
+const SMALL: [[&str; 2]; 2] = [
+    ["every two small ones", "every small one"],
+    [
+        "weighted, every two small ones",
+        "weighted, every small one",
+    ],
 ];
 
 /// How many random pairs of each kind.
@@ -25,26 +44,32 @@ const PAIRS: usize = 60;
 type Strings = Vec<Vec<bool>>;
 
 pub fn run(rng: &mut Rng, tally: &mut Tally) {
-    for i in 0..PAIRS * KINDS.len() {
-        let kind = KINDS[i % KINDS.len()];
-        let n = if i < 8 { 33 } else { 1 + rng.below(12) };
+    for i in 0..2 * PAIRS * KINDS.len() {
+        let [kind, weighted_kind] = KINDS[i / 2 % KINDS.len()];
+        let weighted = i % 2 == 1;
+        let name = if weighted { weighted_kind } else { kind };
+        let n = if i < 16 { 33 } else { 1 + rng.below(12) };
         let t = rng.pick(&[1, 2, 2, 3, 3, 4]);
         let count = rng.below(10);
         let one = strings(rng, n, count);
         let other = other(rng, n, t, &one, kind);
-        let records = [&one, &other].map(|strings| record(rng, tally, n, t, strings, kind));
+        let records =
+            [&one, &other].map(|strings| record(rng, tally, n, weighted, t, strings, name));
         let same = brute::cut(&one, t) == brute::cut(&other, t);
-        tally.pair(kind, records[0] == records[1], same);
+        tally.pair(name, records[0] == records[1], same);
     }
     for (n, most) in [(1, 5), (2, 4), (3, 3)] {
         for t in 1..5 {
-            every_small(rng, tally, n, t, most);
+            for weighted in [false, true] {
+                every_small(rng, tally, n, weighted, t, most);
+            }
         }
     }
 }
 
 /// Every two collections of at most so many strings of n bits.
-fn every_small(rng: &mut Rng, tally: &mut Tally, n: usize, t: u64, most: u32) {
+fn every_small(rng: &mut Rng, tally: &mut Tally, n: usize, weighted: bool, t: u64, most: u32) {
+    let [pairs, small] = SMALL[weighted as usize];
     let mut met: Vec<(Strings, Vec<u8>)> = Vec::new();
     for count in 0..=most {
         for code in 0..1usize << (n * count as usize) {
@@ -52,13 +77,13 @@ fn every_small(rng: &mut Rng, tally: &mut Tally, n: usize, t: u64, most: u32) {
             let strings: Strings = (0..count as usize)
                 .map(|i| (0..n).map(|at| bit(i, at)).collect())
                 .collect();
-            let record = record(rng, tally, n, t, &strings, "every small one");
+            let record = record(rng, tally, n, weighted, t, &strings, small);
             met.push((brute::cut(&strings, t), record));
         }
     }
     for (i, (cut, record)) in met.iter().enumerate() {
         for (other_cut, other) in &met[..i] {
-            tally.pair("every two small ones", record == other, cut == other_cut);
+            tally.pair(pairs, record == other, cut == other_cut);
         }
     }
 }
@@ -116,6 +141,7 @@ fn record(
     rng: &mut Rng,
     tally: &mut Tally,
     n: usize,
+    weighted: bool,
     t: u64,
     strings: &Strings,
     kind: &'static str,
@@ -123,7 +149,7 @@ fn record(
     let expander = good_expander(rng);
     let mut reports = Reports::none(n);
     for string in strings {
-        reports.add(rng, expander, string.clone());
+        reports.add(rng, expander, 1, string.clone());
     }
     let queried = queried(strings, n, t);
     let heavy: Vec<u8> = brute::heavy(strings, t)
@@ -131,6 +157,7 @@ fn record(
         .flat_map(|string| pack(string))
         .collect();
     let mut call = Call::of(reports, t, expander);
+    call.weighted = weighted;
     call.record_room = room(rng, queried.len());
     call.list_room = room(rng, heavy.len());
     let theirs = compare(rng, &Plan::counted(kind), &call, tally);

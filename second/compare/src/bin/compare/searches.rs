@@ -1,11 +1,13 @@
-//! Comparison of the whole search: random calls, the fixed ones of `search_cases`, and those of
-//! `search_demands`; number, lengths, both areas and the lent inputs.
+//! Comparison of the whole search: random calls, the fixed ones of `search_cases` and
+//! `weighted_search_cases`, and those of `search_demands` and `weighted_demands`; number, lengths,
+//! both areas and the lent inputs.
 
-use crate::search_cases;
-use crate::search_demands;
+pub use crate::search_call::Call;
+use crate::{search_cases, search_demands, weighted_demands, weighted_search_cases};
 use compare::calls;
 use compare::make::*;
 use compare::tally::{shown, Outcome, Plan, Space, Tally};
+use compare::weights::{bad_t, good_t, weight};
 use second::field::P;
 use second::keys::public_share_size;
 use second::rng::Rng;
@@ -33,48 +35,8 @@ const DAMAGES: [&str; 19] = [
     "list room",
 ];
 
-#[derive(Clone)]
-pub struct Call {
-    pub n: u64,
-    pub t: u64,
-    pub expander: u64,
-    pub seeds: [Vec<u8>; 2],
-    pub public: [Vec<u8>; 2],
-    pub record_room: usize,
-    pub list_room: usize,
-}
-
-impl Call {
-    /// The search of these reports, each server with its own copy, and no room yet.
-    pub fn of(reports: Reports, t: u64, expander: u64) -> Call {
-        Call {
-            n: reports.n as u64,
-            t,
-            expander,
-            seeds: reports.seeds,
-            public: [reports.public.clone(), reports.public],
-            record_room: 0,
-            list_room: 0,
-        }
-    }
-
-    /// The second program's answer with areas of these sizes.
-    pub fn ours(&self, record_room: usize, list_room: usize) -> second::Found {
-        second::search(
-            self.n,
-            self.t,
-            self.expander,
-            &self.seeds[0],
-            &self.public[0],
-            &self.seeds[1],
-            &self.public[1],
-            &mut vec![0; record_room],
-            &mut vec![0; list_room],
-        )
-    }
-}
-
-type Search = fn(u64, u64, u64, &[u8], &[u8], &[u8], &[u8], &mut [u8], &mut [u8]) -> second::Found;
+type Search =
+    fn(u64, bool, u64, u64, &[u8], &[u8], &[u8], &[u8], &mut [u8], &mut [u8]) -> second::Found;
 
 /// The spaces of an outcome after those of the four lent inputs.
 pub const RECORD: usize = 4;
@@ -87,14 +49,17 @@ pub fn run(start: u64, count: usize, tally: &mut Tally) {
         let call = plan.call(&mut rng, hostile, damaged);
         compare(&mut rng, &plan, &call, tally);
     }
-    search_cases::each(|name, wanted, call| {
+    let mut take = |name: &'static str, wanted: search_cases::Wanted, call: Call| {
         let plan = Plan::fixed(name, &wanted.numbers());
         let theirs = compare(&mut rng, &plan, &call, tally);
         if !wanted.written(&theirs) {
             tally.fault(&format!("fixed search, {name}: another record or list"));
         }
-    });
+    };
+    search_cases::each(&mut take);
+    weighted_search_cases::each(&mut take);
     search_demands::run(&mut rng, tally);
+    weighted_demands::run(&mut rng, tally);
 }
 
 fn damaged(rng: &mut Rng, plan: &Plan) -> Call {
@@ -112,12 +77,30 @@ fn damaged(rng: &mut Rng, plan: &Plan) -> Call {
         count = 24 + rng.below(13);
     }
     let all = count.max(1) as u64;
-    let mut t = rng.pick(&[1, 1, 2, 2, 3, all, all + 1, 65_535]);
+    let weighted = rng.coin();
+    let near = rng.pick(&[5, 32_766, 32_767, 32_768, 65_534, 2_147_483_647]);
+    let mut t = rng.pick(&[
+        1,
+        1,
+        2,
+        2,
+        3,
+        all,
+        all + 1,
+        if weighted { near } else { 65_535 },
+    ]);
     if plan.has("list room") {
         t = 1;
     }
     let bits = n as usize;
-    let mut call = Call::of(reports(rng, bits, expander, count), t, expander);
+    // A quarter of the unweighted searches have weights too, and are then not honest.
+    let made = if weighted || rng.below(4) == 0 && !explosive {
+        weighted_reports(rng, bits, expander, count, weight)
+    } else {
+        reports(rng, bits, expander, count)
+    };
+    let mut call = Call::of(made, t, expander);
+    call.weighted = weighted;
     for damage in plan.damages.iter().rev() {
         spoil(rng, &mut call, damage, bits);
     }
@@ -143,7 +126,7 @@ fn spoil(rng: &mut Rng, call: &mut Call, damage: &str, n: usize) {
     let size = public_share_size(n);
     match damage {
         "n" => call.n = bad_n(rng),
-        "t" => call.t = bad_t(rng),
+        "t" => call.t = bad_t(rng, call.weighted),
         "expander" => call.expander = bad_expander(rng),
         "seeds 0 length" => wrong_length(rng, &mut call.seeds[0], 16),
         "public shares 0 length" => wrong_length(rng, &mut call.public[0], size),
@@ -192,9 +175,11 @@ fn hostile(rng: &mut Rng) -> Call {
     if rng.below(8) != 0 {
         pass_six_and_seven(&mut public, n as usize);
     }
+    let weighted = rng.coin();
     let mut call = Call {
         n,
-        t: good_t(rng),
+        weighted,
+        t: good_t(rng, weighted),
         expander: good_expander(rng),
         seeds: [rng.bytes(16 * count), rng.bytes(16 * count)],
         public: [public.clone(), public],
@@ -213,7 +198,8 @@ fn hostile(rng: &mut Rng) -> Call {
 
 /// Compares one call and gives the library's outcome.
 pub fn compare(rng: &mut Rng, plan: &Plan, call: &Call, tally: &mut Tally) -> Outcome {
-    let inputs = format!("n={} t={} expander={} ", call.n, call.t, call.expander)
+    let inputs = format!("n={} weighted={} t={} ", call.n, call.weighted, call.t)
+        + &format!("expander={} ", call.expander)
         + &shown("seeds0", &call.seeds[0])
         + &shown("public_shares0", &call.public[0])
         + &shown("seeds1", &call.seeds[1])
@@ -234,6 +220,7 @@ pub fn compare(rng: &mut Rng, plan: &Plan, call: &Call, tally: &mut Tally) -> Ou
         let (mut record, mut list) = (record(), list());
         let found = with(
             call.n,
+            call.weighted,
             call.t,
             call.expander,
             seeds0,

@@ -4,6 +4,7 @@ use compare::calls;
 use compare::make::*;
 use compare::queries;
 use compare::tally::{shown, Outcome, Plan, Space, Tally};
+use compare::weights::weight;
 use second::field::P;
 use second::keys::public_share_size;
 use second::rng::Rng;
@@ -52,7 +53,7 @@ fn damaged(rng: &mut Rng, plan: &Plan) -> Call {
     let expander = good_expander(rng);
     let least = if plan.damages.is_empty() { 0 } else { 1 };
     let count = least + if n > 200 { rng.below(2) } else { rng.below(5) };
-    let reports = reports(rng, bits, expander, count);
+    let reports = weighted_reports(rng, bits, expander, count, weight);
     let server = rng.coin();
     let query = queries::good(rng, bits, &reports.strings);
     let asked = second::query::Query::of(&query).count;

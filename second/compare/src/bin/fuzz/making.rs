@@ -5,6 +5,15 @@ use compare::calls;
 use second::field::{read, P};
 use second::rng::Rng;
 
+/// The number of a threshold outside its bounds.
+fn threshold(weighted: bool) -> u64 {
+    if weighted {
+        12
+    } else {
+        2
+    }
+}
+
 /// The generator and the judge that every call is given.
 pub struct Fuzz<'a> {
     pub rng: Rng,
@@ -26,14 +35,19 @@ impl Fuzz<'_> {
     }
 
     /// The public share, where it was made.
-    pub fn key(&mut self, n: u64, expander: u64, inputs: [&[u8]; 3], room: usize) -> Vec<u8> {
+    pub fn key(
+        &mut self,
+        (n, expander, weight): (u64, u64, i16),
+        inputs: [&[u8]; 3],
+        room: usize,
+    ) -> Vec<u8> {
         let call = Call {
             name: "key",
             may: &[0, 1, 3, 4, 7, 11],
-            fields: &[n, expander],
+            fields: &[n, expander, weight as u64],
         };
         let make = |[string, seed0, seed1]: [&[u8]; 3], [public]: [&mut [u8]; 1]| {
-            let reply = calls::key(n, expander, string, seed0, seed1, public);
+            let reply = calls::key(n, expander, weight, string, seed0, seed1, public);
             (reply.number, [reply.length])
         };
         let [public] = self.judged.call(&mut self.rng, &call, inputs, [room], make);
@@ -81,15 +95,15 @@ impl Fuzz<'_> {
     }
 
     /// A refusal is of kind 0 and an answer is not; a search that ended has no bytes.
-    pub fn combine(&mut self, n: u64, t: u64, inputs: [&[u8]; 3], room: usize) {
+    pub fn combine(&mut self, (n, weighted, t): (u64, bool, u64), inputs: [&[u8]; 3], room: usize) {
         let call = Call {
             name: "combine",
-            may: &[0, 1, 2, 4, 6, 9, 11],
-            fields: &[n, t],
+            may: &[0, 1, threshold(weighted), 4, 6, 9, 11],
+            fields: &[n, weighted as u64, t],
         };
         let mut right = true;
         let make = |[query, share0, share1]: [&[u8]; 3], [out]: [&mut [u8]; 1]| {
-            let made = calls::combine(n, t, query, share0, share1, out);
+            let made = calls::combine(n, weighted, t, query, share0, share1, out);
             right = match made.kind {
                 0 => made.number != 0,
                 1 | 2 => made.number == 0,
@@ -108,19 +122,19 @@ impl Fuzz<'_> {
     /// The inputs are seeds and public shares of server 0, then those of server 1.
     pub fn search(
         &mut self,
-        (n, t, expander): (u64, u64, u64),
+        (n, weighted, t, expander): (u64, bool, u64, u64),
         inputs: [&[u8]; 4],
         rooms: [usize; 2],
     ) {
         let call = Call {
             name: "search",
-            may: &[0, 1, 2, 3, 4, 5, 6, 7, 8, 11],
-            fields: &[n, t, expander],
+            may: &[0, 1, threshold(weighted), 3, 4, 5, 6, 7, 8, 11],
+            fields: &[n, weighted as u64, t, expander],
         };
         let make = |lent: [&[u8]; 4], [record, list]: [&mut [u8]; 2]| {
             let [seeds0, public0, seeds1, public1] = lent;
             let found = calls::search(
-                n, t, expander, seeds0, public0, seeds1, public1, record, list,
+                n, weighted, t, expander, seeds0, public0, seeds1, public1, record, list,
             );
             (found.number, [found.record_length, found.list_length])
         };

@@ -7,6 +7,7 @@ use compare::make::{any_number, pass_six_and_seven, set_number};
 use compare::queries;
 #[cfg(feature = "exam")]
 use compare::sheets::{change_byte, wild_text, Sheet};
+use compare::weights::{good_t, weight};
 use second::keys::public_share_size;
 use second::query::{pack, packed_size, Query};
 use second::rng::Rng;
@@ -64,6 +65,7 @@ impl Fuzz<'_> {
         let size = public_share_size(n);
         let both = [seeds(rng, count), seeds(rng, count)];
         let (mut strings, mut public) = (Vec::new(), Vec::new());
+        let weighed = rng.coin();
         for i in 0..count {
             let any = self.rng.bits(n);
             let held = strings.first().filter(|_| self.rng.coin()).cloned();
@@ -71,7 +73,10 @@ impl Fuzz<'_> {
             let packed = pack(&string);
             let [seed0, seed1] = both.each_ref().map(|seeds| &seeds[16 * i..16 * i + 16]);
             let honest = [&packed[..], seed0, seed1];
-            public.extend(self.key(n as u64, expander, honest, size));
+            let any = weight(&mut self.rng);
+            let weight = if weighed { any } else { 1 };
+            let fields = (n as u64, expander, weight);
+            public.extend(self.key(fields, honest, size));
             let rng = &mut self.rng;
             let near = honest.map(|bytes| perhaps(rng, bytes));
             let (n, expander, room) = (
@@ -79,7 +84,7 @@ impl Fuzz<'_> {
                 number(rng, expander),
                 length(rng, size),
             );
-            self.key(n, expander, near.each_ref().map(|b| &b[..]), room);
+            self.key((n, expander, any), near.each_ref().map(|b| &b[..]), room);
             strings.push(string);
         }
         if public.len() != count * size || self.rng.below(8) == 0 {
@@ -144,25 +149,28 @@ impl Fuzz<'_> {
     /// A query combined with its shares, and then with inputs near those.
     fn combines(&mut self, n: u64, query: &[u8], shares: &[Vec<u8>; 2]) {
         let size = 6 + 2 * query.len();
-        let t = self.rng.pick(&[1, 2, 3, 65_535]);
+        let weighted = self.rng.coin();
+        let t = good_t(&mut self.rng, weighted);
         let honest = [query, &shares[0], &shares[1]];
-        self.combine(n, t, honest, size);
+        self.combine((n, weighted, t), honest, size);
         let rng = &mut self.rng;
         let near = honest.map(|bytes| perhaps(rng, bytes));
         let (n, t, room) = (number(rng, n), number(rng, t), length(rng, size));
-        self.combine(n, t, near.each_ref().map(|b| &b[..]), room);
+        let fields = (n, weighted ^ (rng.below(8) == 0), t);
+        self.combine(fields, near.each_ref().map(|b| &b[..]), room);
     }
 
     /// A search of the reports, and one of inputs near them; its record's size holds it back.
     fn searches(&mut self, reports: &Reports) {
         let (n, count) = (reports.n, reports.strings.len());
-        let t = self.rng.pick(&[1, 2, 3, 65_535]);
+        let weighted = self.rng.coin();
+        let t = good_t(&mut self.rng, weighted);
         let most = 64 + 9 * NODES / (n * count.max(1));
         let room = length(&mut self.rng, 40 * n * count).min(most);
         let list_room = length(&mut self.rng, count * packed_size(n));
         let [seeds0, seeds1] = &reports.seeds;
         let honest = [&seeds0[..], &reports.public, seeds1, &reports.public];
-        let fields = (n as u64, t, reports.expander);
+        let fields = (n as u64, weighted, t, reports.expander);
         self.search(fields, honest, [room, list_room]);
         let rng = &mut self.rng;
         let mut near = honest.map(|bytes| perhaps(rng, bytes));
@@ -171,6 +179,7 @@ impl Fuzz<'_> {
         }
         let fields = (
             number(rng, fields.0),
+            weighted ^ (rng.below(8) == 0),
             number(rng, t),
             number(rng, reports.expander),
         );
@@ -183,14 +192,16 @@ impl Fuzz<'_> {
     fn wild(&mut self) {
         let rng = &mut self.rng;
         let (n, t) = (any_number(rng), any_number(rng));
+        let (weighted, weight) = (rng.coin(), weight(rng));
         let (expander, server) = (number(rng, 1), rng.coin());
         let any: [Vec<u8>; 4] = std::array::from_fn(|_| bytes(rng, 16));
         let rooms: [usize; 6] = std::array::from_fn(|_| length(rng, 16));
         let [a, b, c, d] = any.each_ref().map(|bytes| &bytes[..]);
-        self.key(n, expander, [a, b, c], rooms[0]);
+        self.key((n, expander, weight), [a, b, c], rooms[0]);
         self.share((n, expander, server), [a, b, c], rooms[1]);
-        self.combine(n, t, [a, b, c], rooms[2]);
-        self.search((n, t, expander), [a, b, c, d], [rooms[3], rooms[4]]);
+        self.combine((n, weighted, t), [a, b, c], rooms[2]);
+        let fields = (n, weighted, t, expander);
+        self.search(fields, [a, b, c, d], [rooms[3], rooms[4]]);
         self.add([a, b], rooms[5]);
     }
 
@@ -201,7 +212,9 @@ impl Fuzz<'_> {
         let query = second::query::first();
         let server = self.rng.coin();
         self.share((1, 2, server), [&seeds, &public, &query], 16);
-        self.search((1, 1, 2), [&seeds, &public, &seeds, &public], [24, 2]);
+        let weighted = self.rng.coin();
+        let inputs = [&seeds[..], &public, &seeds, &public];
+        self.search((1, weighted, 1, 2), inputs, [24, 2]);
         self.add([&seeds, &seeds], seeds.len());
     }
 

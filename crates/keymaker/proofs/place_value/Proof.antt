@@ -1,10 +1,10 @@
--- `keymaker::weight` meets its contract.
+-- `keymaker::place_value` meets its contract.
 use Prim.Native.Nat.{_*_, _%_, _^_, _≤_}
 use native.Mathlib.Omega.{arith}
 use lib.Pow.{pow-pos, pow-mono}
 use borrow.Author.Needs.{needs}
-use Rattle.keymaker.proofs.weight.Statement.{statement}
-use Rattle.keymaker.proofs.weight.Tie as tie
+use Rattle.keymaker.proofs.place_value.Statement.{statement}
+use Rattle.keymaker.proofs.place_value.Tie as tie
 
 returns : tie.Need-returns
 returns c =
@@ -12,5 +12,5 @@ returns c =
     let small : 2 ^ place ≤ 2 ^ 6 = pow-mono {i = place} {j = 6} (omega arith) in
     (omega arith, omega (arith, pow-pos place), omega arith)
 
-pub weight-spec : {M : Type 1} → statement M
-weight-spec = tie.close (tie.spec (λ c. search needs) (λ c. search needs) (λ c. search needs) returns)
+pub place-value-spec : {M : Type 1} → statement M
+place-value-spec = tie.close (tie.spec (λ c. search needs) (λ c. search needs) (λ c. search needs) returns)

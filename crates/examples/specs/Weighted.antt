@@ -1,0 +1,61 @@
+-- Examples of weighted searches as one table: document 02, [1].
+use Prim.Native.Nat.{ℕ, _-_, _≤_}
+use mathlib.Core.Path.{_≡_}
+use mathlib.Core.Bool.{true}
+use mathlib.Core.List.{List, [], _∷_, _++_}
+use lib.IntN.{ℤ, pos, negsuc}
+use Rattle.bits.specs.Strings.{Bits}
+use Rattle.numbers.specs.Numbers.{little}
+use Rattle.group.specs.Modular.{modulus}
+use Rattle.weights.specs.Weights.{heldWeight}
+use Rattle.query.specs.Query.{packs}
+use Rattle.combine.specs.Combine.{combineOutcome}
+use Rattle.search.specs.Search.{Lent, thresholdOf, searchNumber}
+use Rattle.honest.specs.Honest.{Accepted, recordRead, listRead, Honest}
+use Rattle.examples.specs.Marked.{s00, s01, s10, s11}
+
+-- A row of the table.
+pub data WeightedRow : Type 0 where
+  -- n, t, strings and their weights, and the record and the list that every accepted weighted search of honest reports for them leaves, whatever its
+  -- seeds and expander
+  weightedSearch : ℕ → ℕ → List Bits → List ℤ → List ℕ → List Bits → WeightedRow
+  -- strings and their weights, a prefix, and what the weights of its holders add to
+  heldAt : List Bits → List ℤ → Bits → ℤ → WeightedRow
+  -- t, and the number of every weighted search, and of every combining in one, with this threshold whose n is within its bounds
+  refusedWith : ℕ → ℕ → WeightedRow
+
+-- what a row says
+abbrev pub WeightedHolds : WeightedRow → Type 0
+WeightedHolds (weightedSearch n t xs ws bytes ss) =
+    (s : Lent) → Honest s xs ws → s .weighted ≡ true → s .n ≡ n → thresholdOf s ≡ t → Accepted s → (recordRead s ≡ bytes) × (listRead s ≡ packs ss)
+WeightedHolds (heldAt xs ws q z) = heldWeight xs ws q ≡ z
+WeightedHolds (refusedWith t number) =
+    ((s : Lent) → s .weighted ≡ true → 1 ≤ s .n → s .n ≤ 256 → thresholdOf s ≡ t → searchNumber s ≡ number)
+    × ((n : ℕ) (query share0 share1 : List ℕ) (room : ℕ) → 1 ≤ n → n ≤ 256 → combineOutcome n true t query share0 share1 room .number ≡ number)
+
+-- `00`, `01`, `10` and `11`, which save −7, 5, 3 and −1
+abbrev pub savers : List Bits
+savers = s00 ∷ s01 ∷ s10 ∷ s11 ∷ []
+
+abbrev pub savings : List ℤ
+savings = negsuc 6 ∷ pos 5 ∷ pos 3 ∷ negsuc 0 ∷ []
+
+-- a record of two levels: `0` and `1` with their totals, then `10` and `11` with theirs
+abbrev pub twoLevelsOf1 : ℕ → ℕ → ℕ → ℕ → List ℕ
+twoLevelsOf1 a b c d =
+    (0 ∷ 0 ∷ 0 ∷ 0 ∷ 0 ∷ 2 ∷ 0 ∷ 128 ∷ []) ++ little 8 a ++ little 8 b ++ (0 ∷ 1 ∷ 0 ∷ 0 ∷ 0 ∷ 2 ∷ 128 ∷ 192 ∷ []) ++ little 8 c ++ little 8 d
+
+-- the examples
+abbrev pub weightedTable : List WeightedRow
+weightedTable =
+    -- negative totals stand in the record as group numbers, and `01` is not in the list, heavy under a light parent
+    weightedSearch 2 2 savers savings (twoLevelsOf1 (modulus - 2) 2 3 (modulus - 1)) (s10 ∷ [])
+    ∷ heldAt savers savings s01 (pos 5)
+    ∷ heldAt savers savings (true ∷ []) (pos 2)
+    -- the greatest threshold is reached by no two weights
+    ∷ weightedSearch 1 2147483647 ((true ∷ []) ∷ (true ∷ []) ∷ []) (pos 32767 ∷ pos 32767 ∷ [])
+    ((0 ∷ 0 ∷ 0 ∷ 0 ∷ 0 ∷ 2 ∷ 0 ∷ 128 ∷ []) ++ little 8 0 ++ little 8 65534) []
+    -- the bounds of a weighted threshold
+    ∷ refusedWith 0 12
+    ∷ refusedWith 2147483648 12
+    ∷ []
