@@ -4,6 +4,9 @@
 //!
 //!     cargo run --release --example parallel_server
 
+mod holder;
+
+use holder::Holder;
 use std::error::Error;
 use std::fmt;
 use std::io::{self, IsTerminal};
@@ -28,34 +31,7 @@ const OTHERS: usize = 151;
 /// How many parts a server's reports are split into; there are more than threads, so that no thread waits long for another.
 const PARTS: usize = 12;
 
-/// What one server was given.
-struct Holder {
-    server: Server,
-    seeds: Vec<Seed>,
-    public_shares: Vec<u8>,
-}
-
 impl Holder {
-    fn new(server: Server) -> Holder {
-        Holder {
-            server,
-            seeds: Vec::new(),
-            public_shares: Vec::new(),
-        }
-    }
-
-    fn take(&mut self, seed: Seed, public_share: &[u8]) {
-        self.seeds.push(seed);
-        self.public_shares.extend(public_share);
-    }
-
-    fn reports(&self) -> Reports<'_> {
-        Reports {
-            seeds: &self.seeds,
-            public_shares: &self.public_shares,
-        }
-    }
-
     /// The reports in parts of equal size, but for the last.
     fn parts(&self) -> Vec<Reports<'_>> {
         let size = self.seeds.len().div_ceil(PARTS).max(1);

@@ -3,6 +3,9 @@
 //!
 //!     cargo run --release --example two_servers
 
+mod holder;
+
+use holder::Holder;
 use std::error::Error;
 use tally::{
     add_shares, block, make_key, public_share_length, search, share, strings, Collector,
@@ -19,34 +22,7 @@ const POPULAR: [(u16, usize); 4] = [(0xbeef, 12), (0xbee5, 7), (0x1234, 5), (0x1
 /// How many further installations hold some string of their own.
 const OTHERS: usize = 20;
 
-/// What one server was given: the other server's seeds are not here.
-struct Holder {
-    server: Server,
-    seeds: Vec<Seed>,
-    public_shares: Vec<u8>,
-}
-
 impl Holder {
-    fn new(server: Server) -> Holder {
-        Holder {
-            server,
-            seeds: Vec::new(),
-            public_shares: Vec::new(),
-        }
-    }
-
-    fn take(&mut self, seed: Seed, public_share: &[u8]) {
-        self.seeds.push(seed);
-        self.public_shares.extend(public_share);
-    }
-
-    fn reports(&self) -> Reports<'_> {
-        Reports {
-            seeds: &self.seeds,
-            public_shares: &self.public_shares,
-        }
-    }
-
     /// Two machines share the server's work: each answers for half of the reports, and their answers are added.
     fn answer(&self, query: &[u8]) -> Result<Vec<u8>, Refusal> {
         let half = self.seeds.len() / 2;

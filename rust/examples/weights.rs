@@ -4,10 +4,13 @@
 //!
 //!     cargo run --release --example weights
 
+mod holder;
+
+use holder::Holder;
 use std::error::Error;
 use tally::{
-    block, make_weighted_key, share, BitString, Expander, List, Record, Refusal, Reports, Seed,
-    Server, Settings,
+    block, make_weighted_key, share, BitString, Expander, List, Record, Refusal, Seed, Server,
+    Settings,
 };
 
 /// The string length and the threshold.
@@ -24,34 +27,7 @@ const SAVINGS: [(&str, i16); 6] = [
     ("111", -1_200),
 ];
 
-/// What one server was given: the other server's seeds are not here.
-struct Holder {
-    server: Server,
-    seeds: Vec<Seed>,
-    public_shares: Vec<u8>,
-}
-
 impl Holder {
-    fn new(server: Server) -> Holder {
-        Holder {
-            server,
-            seeds: Vec::new(),
-            public_shares: Vec::new(),
-        }
-    }
-
-    fn take(&mut self, seed: Seed, public_share: &[u8]) {
-        self.seeds.push(seed);
-        self.public_shares.extend(public_share);
-    }
-
-    fn reports(&self) -> Reports<'_> {
-        Reports {
-            seeds: &self.seeds,
-            public_shares: &self.public_shares,
-        }
-    }
-
     fn answer(&self, query: &[u8]) -> Result<Vec<u8>, Refusal> {
         share(N, Expander::Aes, self.server, self.reports(), query)
     }

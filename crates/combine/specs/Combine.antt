@@ -12,8 +12,7 @@ use Rattle.calls.specs.Bounds.{lengthCause, thresholdCause}
 use Rattle.calls.specs.Causes.{Cause, cause, numberDue}
 use Rattle.calls.specs.Outcome.{Outcome, judged}
 use Rattle.group.specs.Modular.{field}
-use Rattle.kept.specs.declared.Rule.{Rule}
-use Rattle.kept.specs.Kept.{reachesAs, reachesBy, kept}
+use Rattle.kept.specs.Kept.{reachesAs, kept}
 use Rattle.query.specs.Query.{limit, IsQuery, isQuery, prefixLength, prefixCount, prefixesOf}
 use Rattle.shares.specs.ShareNumbers.{numbers, added, Unmatched, unmatched, numbersCause}
 use Rattle.combine.specs.Answer.{Answer, next, list, ended, answerAt, answerBytes, Kind, kind, numberOf, lengthOf, kindOf}
@@ -33,10 +32,6 @@ shareTotals share0 share1 = added field (numbers share0) (numbers share1)
 -- the prefixes of the query whose total passes a test
 abbrev pub passing : (ℕ → Bool) → List ℕ → List ℕ → List ℕ → List Bits
 passing passes query share0 share1 = kept passes (prefixesOf query) (shareTotals share0 share1)
-
--- those that a rule keeps
-abbrev pub keptBy : Rule → List ℕ → List ℕ → List ℕ → List Bits
-keptBy rule = passing (reachesBy rule)
 
 -- the kept prefixes of the query: those whose total, read as a signed number where the search is weighted, is at least t
 abbrev pub keptPrefixes : Bool → ℕ → List ℕ → List ℕ → List ℕ → List Bits

@@ -17,7 +17,8 @@ ghost use Rattle.query.specs.Query.{packs, prefixLength, prefixCount, packedPre
 ghost use Rattle.query.specs.Prefix.{part};
 ghost use Rattle.query.specs.Written.{fitting};
 ghost use Rattle.kept.proofs.Onward.{onward, onwardBytes};
-ghost use Rattle.combine.specs.Combine.{keptBy};
+ghost use Rattle.kept.specs.Kept.{reachesBy};
+ghost use Rattle.combine.specs.Combine.{passing};
 
 // The packed prefix of len bits in the w bytes from place `from` on, where `last`, and else both its children, into the places from `at` on if it is
 // kept; and the place after what is written.
@@ -55,8 +56,8 @@ pub(crate) fn write_kept(
     requires { ⌜ 6 + prefixCount (now q) * packedLength (prefixLength (now q)) ≤ length (now q) ⌝ }
     requires { ⌜ sparesZero (prefixLength (now q)) (packedPrefixes (now q)) ≡ true ⌝ }
     requires { ⌜ (length (now s0) ≡ 8 * prefixCount (now q)) × (length (now s1) ≡ 8 * prefixCount (now q)) ⌝ }
-    requires { ⌜ at + length (packs (onward last (keptBy rule (now q) (now s0) (now s1)))) ≤ length (now out) ⌝ }
-    ensures { λ _. ⌜ now (out .exit) ≡ putAt (now (out .entry)) at (packs (onward last (keptBy rule (now (q .entry)) (now (s0 .entry)) (now (s1 .entry))))) ⌝ }
+    requires { ⌜ at + length (packs (onward last (passing (reachesBy rule) (now q) (now s0) (now s1)))) ≤ length (now out) ⌝ }
+    ensures { λ _. ⌜ now (out .exit) ≡ putAt (now (out .entry)) at (packs (onward last (passing (reachesBy rule) (now (q .entry)) (now (s0 .entry)) (now (s1 .entry))))) ⌝ }
 {
     let len = prefix_length(q);
     let w = packed_length(len);

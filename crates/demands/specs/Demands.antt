@@ -83,8 +83,9 @@ Demand2 =
     → (b : Bool) (query : List ℕ) → IsQuery (s .n) query → (room : ℕ) → 8 * prefixCount query ≤ room
     → served s b query room ≡ accepted (totals (pointSum s xs ws e b) (prefixesOf query)))
     -- 'For honestly made keys with any seeds, the list of an accepted search holds every string of the search's full length that at least t
-    -- installations hold and no other, once each, ascending.' So it is where every weight is one, as it is in every search that is not weighted.
+    -- installations hold and no other, once each, ascending.' So it is where every weight is one.
     × ((s : Lent) (xs : List Bits) (ws : List ℤ) → Honest s xs ws → EveryOne ws → Accepted s → TheHeavyStrings s xs (listRead s))
+    -- Document 02, [1]: 'In an unweighted search a report is honest only if its weight is one.'
     × ((s : Lent) (xs : List Bits) (ws : List ℤ) → Honest s xs ws → s .weighted ≡ false → EveryOne ws)
     -- Document 02, [1]: 'the weighted list holds the strings of n bits all of whose non-empty prefixes have holders' weights adding to t or more.'
     × ((s : Lent) (xs : List Bits) (ws : List ℤ) → Honest s xs ws → Accepted s → TheWeightedStrings s xs ws (listRead s))

@@ -1,13 +1,14 @@
 -- The examples of weighted searches: every row of their table holds.
-use Prim.Native.Nat.{ℕ}
-use mathlib.Core.Path.{_≡_, refl, ap, ap₂, _∙_}
+use Prim.Native.Nat.{ℕ, _≤_}
+use native.Mathlib.Omega.{arith}
+use mathlib.Core.Path.{_≡_, refl, sym, ap, ap₂, _∙_, subst}
 use mathlib.Core.Bool.{Bool, true}
 use mathlib.Core.List.{List}
 use lib.ListN.{length}
 use lib.IntN.{ℤ}
 use Rattle.places.specs.Lists.{All}
 use Rattle.bits.specs.Strings.{Bits}
-use Rattle.calls.specs.Bounds.{thresholdMost, thresholdNumber, outside}
+use Rattle.calls.specs.Bounds.{mostWeightedThreshold, thresholdMost, thresholdNumber, outside}
 use Rattle.calls.proofs.Decisions.{in-bounds}
 use Rattle.calls.proofs.Judged.{_&_}
 use Rattle.group.specs.Modular.{modulus}
@@ -16,10 +17,12 @@ use Rattle.kept.specs.Kept.{reachesAs}
 use Rattle.weights.specs.Weights.{heldWeight}
 use Rattle.query.specs.Query.{packs}
 use Rattle.tree.specs.SearchRule.{searchRecord, searchList}
+use Rattle.tree.specs.Space.{levelLength, spaceFrom, fewestHolders, recordSpace, listSpace}
 use Rattle.combine.specs.Combine.{combineOutcome}
-use Rattle.search.specs.Search.{reachesOf, searchNumber}
+use Rattle.search.specs.Search.{thresholdOf, reachesOf, searchNumber}
+use Rattle.honest.proofs.Demand2.{honest-accepted}
 use Rattle.honest.proofs.Weighted.{weighted-record}
-use Rattle.examples.specs.Weighted.{WeightedHolds, weightedSearch, refusedWith, weightedTable}
+use Rattle.examples.specs.Weighted.{WeightedHolds, weightedSearch, acceptedIn, refusedWith, weightedTable}
 use Rattle.examples.proofs.Sheet.{keys, calls, records}
 
 -- A search row holds where the record and the list that the rule gives for what the weights add to are those of the row.
@@ -34,6 +37,16 @@ search-row n t xs ws bytes ss record-is list-is s honest weighted bits threshold
       both .1 ∙ ap packs (ap₂ (λ (r : ℕ → Bool) (m : ℕ). searchList r held m) rule bits ∙ list-is),
     )
 
+-- An acceptance row holds where n, t and the number of strings are within their bounds, and its bytes are the space that is named.
+accepted-row : (n t : ℕ) (xs : List Bits) (ws : List ℤ) → 1 ≤ n → n ≤ 256 → 1 ≤ t → t ≤ mostWeightedThreshold → length xs ≤ 65535
+    → WeightedHolds (acceptedIn n t xs ws (recordSpace n (fewestHolders true t) (length xs)) (listSpace n (fewestHolders true t) (length xs)))
+accepted-row n t xs ws from to least most few s honest weighted bits threshold known room list =
+    let holders : fewestHolders (s .weighted) (thresholdOf s) ≡ fewestHolders true t = ap₂ fewestHolders weighted threshold in
+    honest-accepted s xs ws honest (rw bits from) (rw bits to) (rw threshold least)
+    (subst (λ (b : Bool). s .t ≤ thresholdMost b) (sym weighted) (rw threshold most)) known few
+    (subst (λ (h : ℕ). recordSpace (s .n) h (length xs) ≤ length (s .recordArea)) (sym holders) (rw bits room))
+    (subst (λ (h : ℕ). listSpace (s .n) h (length xs) ≤ length (s .listArea)) (sym holders) (rw bits list))
+
 -- A threshold outside the bounds of a weighted search is refused with 12.
 refused-row : (t : ℕ) → outside (thresholdMost true) t ≡ true → WeightedHolds (refusedWith t 12)
 unfolding searchNumber combineOutcome
@@ -46,12 +59,14 @@ refused-row t beyond = (
 
 -- Every row of the table holds.
 pub weighted-examples : All WeightedHolds weightedTable
-unfolding keys calls records signedIn
+unfolding keys calls records signedIn recordSpace listSpace spaceFrom levelLength
 weighted-examples =
     search-row 2 2 _ _ _ _ refl refl
+    & accepted-row 2 2 _ _ (omega arith) (omega arith) (omega arith) (omega arith) (omega arith)
     & refl
     & refl
     & search-row 1 2147483647 _ _ _ _ refl refl
+    & accepted-row 1 2147483647 _ _ (omega arith) (omega arith) (omega arith) (omega arith) (omega arith)
     & refused-row 0 refl
     & refused-row 2147483648 refl
     & tt

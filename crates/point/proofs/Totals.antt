@@ -60,7 +60,7 @@ module _ {A : Type 0} (G : Group A) {M : Type 0} (plus : M → M → M) (nil : M
       go true ih = ap₂ (G .add) (a .0) ih ∙ sym (E .to-add _ _)
       go false ih = ih
 
--- Where the weights are whole numbers, so is the total, and it reads back wherever their sum does.
+-- Where the weights are whole numbers, the total is what the holders' add to, written into the group.
 module _ {A : Type 0} (S : Scheme A) {In : A → Type 0} (L : Lawful A S In) {M : Type 0} (plus : M → M → M) (nil : M) (e : M → A)
     (E : Embeds (S .group) plus nil e) (whole : Report A → M) (n : ℕ) (q : Bits) (some : 0 < length q) (fits : length q ≤ n)
     (rs : List (Report A)) (made : All (Made In n) rs) (weights : All (λ r. r .weight ≡ e (whole r)) rs) where
@@ -68,7 +68,3 @@ module _ {A : Type 0} (S : Scheme A) {In : A → Type 0} (L : Lawful A S In) {M 
   total-whole =
       total-correct S L n q some fits rs made
       ∙ sum-embeds (S .group) plus nil e E (λ r. r .weight) whole (λ r. isPrefix q (r .string)) rs weights
-
-  pub total-read : (read : A → M) → read (e (sumOf plus nil whole (holders q rs))) ≡ sumOf plus nil whole (holders q rs) →
-      read (reportsTotal S q rs) ≡ sumOf plus nil whole (holders q rs)
-  total-read read back = ap read total-whole ∙ back

@@ -108,4 +108,8 @@ fn main() {
     keys::long_search(1);
     keys::weights();
     searches::weighted();
+    searches::bounds(b"weighted t 0", 1, true, 0);
+    searches::bounds(b"weighted t 65536", 1, true, 65536);
+    searches::bounds(b"weighted t 2147483647", 1, true, 2147483647);
+    searches::bounds(b"weighted t 2147483648", 1, true, 2147483648);
 }

@@ -25,10 +25,7 @@ fn main() {
         ("t 65535", 1, 65_535),
         ("t 65536", 1, 65_536),
     ] {
-        let mut record = [255u8; 24];
-        let mut list = [255u8; 1];
-        let found = search(n, false, t, 2, &[], &[], &[], &[], &mut record, &mut list);
-        show(label, found, &record, &list);
+        bounds(label, n, false, t);
     }
     longest(1);
     for weight in [-32_768, 0, 32_767] {
@@ -37,6 +34,28 @@ fn main() {
         }
     }
     weighted_search();
+    for t in [0, 65_536, 2_147_483_647, 2_147_483_648] {
+        bounds(&format!("weighted t {t}"), 1, true, t);
+    }
+}
+
+/// A search of no reports, weighted or not, with room for two totals.
+fn bounds(label: &str, n: u64, weighted: bool, t: u64) {
+    let mut record = [255u8; 24];
+    let mut list = [255u8; 1];
+    let found = search(
+        n,
+        weighted,
+        t,
+        2,
+        &[],
+        &[],
+        &[],
+        &[],
+        &mut record,
+        &mut list,
+    );
+    show(label, found, &record, &list);
 }
 
 /// The key of the string 101 for a weight.

@@ -14,7 +14,7 @@ use Rattle.query.specs.Prefix.{part}
 use Rattle.query.proofs.Parts.{spare-first, spares-rest}
 use Rattle.query.proofs.Pieces.{next-room, grown-fitting, grown-length}
 use Rattle.kept.proofs.Onward.{onward, onwardBytes, onward-none}
-use Rattle.combine.specs.Combine.{keptBy}
+use Rattle.combine.specs.Combine.{passing}
 use Rattle.combine.proofs.Pieces.{keptFrom, onward-step, query-room, query-spares, kept-whole}
 use Rattle.combine.proofs.writing.write_kept.Statement.{statement}
 use Rattle.combine.proofs.writing.write_kept.Tie as tie
@@ -25,7 +25,7 @@ Inv-loop last rule q s0 s1 out₀ at len w left₀ from₀ place₀ here₀ out 
     × (place + 8 * left ≤ length s0)
     × (place + 8 * left ≤ length s1)
     × (sparesZero len (parts w left (drop from q)) ≡ true)
-    × Grown out₀ at out here (packs (onward last (keptFrom (reachesBy rule) len q s0 s1 left from place))) (packs (onward last (keptBy rule q s0 s1)))
+    × Grown out₀ at out here (packs (onward last (keptFrom (reachesBy rule) len q s0 s1 left from place))) (packs (onward last (passing (reachesBy rule) q s0 s1)))
 
 abbrev μ-loop : tie.MeasureT-loop
 μ-loop last rule q s0 s1 out₀ at len w left₀ from₀ place₀ here₀ out left from place here = left
@@ -56,7 +56,7 @@ left i =
     (l .from + k .before .packed-length .result) (l .place + 8)))
 
 abbrev whole : tie.After-is-kept Inv-loop μ-loop → List ℕ
-whole i = let a = begin (counted i) .args in packs (onward (a .last) (keptBy (a .rule) (a .q .now) (a .s0 .now) (a .s1 .now)))
+whole i = let a = begin (counted i) .args in packs (onward (a .last) (passing (reachesBy (a .rule)) (a .q .now) (a .s0 .now) (a .s1 .now)))
 
 room : (i : tie.After-is-kept Inv-loop μ-loop)
     → i .before .before .loop .from + counted i .before .packed-length .result ≤ length (begin (counted i) .args .q .now)
