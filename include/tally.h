@@ -2,22 +2,23 @@
 //
 // An installation makes the public share of its string with tally_key and gives each server one of its two seeds and the public share. Its
 // report has a weight, which is 1 where reports are counted. For a query each server makes its share with tally_share; where many machines share
-// a server's work, each makes that of its own reports, and tally_add adds them. A collector turns two shares into the next query or the list with
-// tally_combine. tally_search does the whole search where one program holds both servers' reports. tally_exam does all of it for an exam text,
-// and tally_respond writes that text's whole output, refusals too.
+// a server's work, each makes that of its own reports, and tally_add adds them. A server that keeps a list of nodes from one query to the next,
+// begun with tally_roots, makes the same shares with tally_share_kept and goes down one level alone. A collector turns two shares into the next
+// query or the list with tally_combine. tally_search does the whole search where one program holds both servers' reports. tally_exam does all of
+// it for an exam text, and tally_respond writes that text's whole output, refusals too.
 //
 // This header needs C99 or later, or C++.
 //
 // What every call does:
-// - It reads and writes only what it is lent: each area is a pointer and a length in bytes.
-// - No pointer may be null, not even with length 0: TALLY_EMPTY can be lent there, and several times in one call.
+// - It reads and writes only what it is lent: each area is a pointer and a length in bytes, or for a list of nodes how many nodes it has.
+// - No pointer may be null, not even with length 0: TALLY_EMPTY can be lent there, for nodes TALLY_NODES_EMPTY, and several times in one call.
 // - An area that is written may not overlap any other area of the same call; areas that are only read may overlap each other, and an area of
 //   length 0 overlaps none.
 // - It keeps nothing: no allocation, no state between calls, so calls from several threads are independent.
 // - It returns number 0 on success, with how many bytes were written from the beginning of an area; bytes past them are unchanged.
-// - Where it refuses, it returns the first number that applies, in the order 10, 1, 2 or 12, 3, 4, 5, 6, 7, 8, 9, 11, with lengths 0, and every
-//   lent byte is then unchanged; with one exception: when tally_search refuses with 11, every byte of the record area becomes zero. No call
-//   judges both 2 and 12: 12 stands in the place of 2 where the call is weighted.
+// - Where it refuses, it returns the first number that applies, in the order 10, 1, 2 or 12, 3, 4, 5, 6, 7, 8, 9, 13, 14, 11, with lengths 0, and
+//   every lent byte and node is then unchanged; with one exception: when tally_search refuses with 11, every byte of the record area becomes
+//   zero. No call judges both 2 and 12: 12 stands in the place of 2 where the call is weighted.
 // - tally_respond refuses with 11 alone: where 10, 1, 2 or 3 applies, it writes the line that names the number, and returns 0 and that line's
 //   length.
 // - It takes stack for each bit of n: a search with n = 256 was measured at 194 KiB on x86-64, so a thread should have 256 KiB or more;
@@ -36,10 +37,13 @@
 //       6 | A group number, in a public share or in a share, is p or more.
 //       7 | Spare bits are set in a string or in a public share.
 //       8 | The two servers' public shares differ.
-//       9 | The query is not as laid out below, or is outside its limits, or its prefixes are longer than n.
+//       9 | The query is not as laid out below, or is outside its limits, or its prefixes are longer than n; or the last query, where it has
+//         | any bytes.
 //      10 | The exam text is not as laid out below; only tally_exam returns it, and tally_respond writes it as text.
 //      11 | What is to be written would not fit the lent space, or a next query would pass 131,070 prefixes.
 //      12 | The threshold t is not from 1 to 2,147,483,647, and the call is weighted.
+//      13 | There are fewer nodes than reports x prefixes of the last query or of the new one, or at the roots than seeds.
+//      14 | The parent of a prefix, the prefix without its last bit, was not in the last query.
 //
 // How totals are read:
 // - With honest reports the total of a prefix is the sum of the weights of those whose strings begin with it, its holders, modulo p; where every
@@ -61,6 +65,8 @@
 // - A query is 2 bytes with the prefix length minus one, big-endian; 4 bytes with the count, big-endian; then the prefixes, strictly
 //   ascending.
 // - A share is one group number for each prefix of its query, in order.
+// - A list of nodes has a node for each report and each prefix of the last query: report by report in the order of the public shares, and of each
+//   report the prefixes in the order of the query. At the roots, where the last query is no bytes, it has one node a report.
 // - A record is each query followed by its totals, one group number for each prefix.
 // - A list is the heavy strings, packed, ascending: those that at least t reports hold, or in a weighted search those of n bits all of whose
 //   prefixes of 1 to n bits have holders' weights that add to t or more.
@@ -84,7 +90,7 @@ extern "C" {
 #endif
 
 // The version of this header and of the library beside it.
-#define TALLY_VERSION "0.3.0"
+#define TALLY_VERSION "0.4.0"
 
 // ---- numbers
 
@@ -102,6 +108,8 @@ extern "C" {
 #define TALLY_REFUSED_EXAM_TEXT 10
 #define TALLY_REFUSED_SPACE 11
 #define TALLY_REFUSED_WEIGHTED_THRESHOLD 12
+#define TALLY_REFUSED_TOO_FEW_NODES 13
+#define TALLY_REFUSED_NO_PARENT 14
 
 // A sentence for each number that a call returns. It is plain C in this header and no part of the proved library.
 static inline const char *tally_refusal_text(uint64_t number)
@@ -126,13 +134,17 @@ static inline const char *tally_refusal_text(uint64_t number)
     case TALLY_REFUSED_PUBLIC_SHARES_DIFFER:
         return "The two servers' public shares differ.";
     case TALLY_REFUSED_QUERY:
-        return "The query is not as laid out, is outside its limits, or its prefixes are longer than n.";
+        return "The query, or the last query, is not as laid out, is outside its limits, or its prefixes are longer than n.";
     case TALLY_REFUSED_EXAM_TEXT:
         return "The exam text is not as laid out.";
     case TALLY_REFUSED_SPACE:
         return "What is to be written would not fit the lent space, or a next query would pass 131,070 prefixes.";
     case TALLY_REFUSED_WEIGHTED_THRESHOLD:
         return "The weighted threshold is not from 1 to 2,147,483,647.";
+    case TALLY_REFUSED_TOO_FEW_NODES:
+        return "There are fewer nodes than reports x prefixes of the last query or of the new one, or at the roots than seeds.";
+    case TALLY_REFUSED_NO_PARENT:
+        return "The parent of a prefix was not in the last query.";
     default:
         return "unknown number";
     }
@@ -215,6 +227,27 @@ static inline uint8_t *tally_empty(void)
 // to 32, and 32 heavy strings in lines of 39 bytes.
 #define TALLY_EXAM_SPACE 43232
 
+// ---- nodes
+
+// A node of one report at one prefix: what a server keeps to go further down from there. It has 17 bytes, without padding, and is as secret as
+// the seed that it came from. The bit has to be 0 or 1, as what C stores into a bool is; the byte of any other value, read from a file for
+// instance, may not be lent.
+typedef struct tally_node {
+    uint8_t seed[16];
+    bool bit;
+} tally_node;
+
+// What to lend, with count 0, where there are no nodes: a pointer to a static node that no call touches, since no pointer may be null.
+static inline tally_node *tally_nodes_empty(void)
+{
+    static tally_node untouched;
+    return &untouched;
+}
+#define TALLY_NODES_EMPTY tally_nodes_empty()
+
+// How many nodes a list needs for a query of that many prefixes. A call needs enough for the last query and for the new one.
+#define TALLY_NODES_COUNT(reports, prefixes) ((size_t)(reports) * (size_t)(prefixes))
+
 // ---- calls
 
 // What most calls return: the number of the cause that refused, or 0; and how many bytes were written.
@@ -267,6 +300,34 @@ tally_reply tally_share(uint64_t n, uint64_t expander, bool server,
                         const uint8_t *public_shares, size_t public_shares_length,
                         const uint8_t *query, size_t query_length,
                         uint8_t *share, size_t share_length);
+
+// Writes a list of nodes at the roots, where a server that keeps nodes begins: for each seed in order a node with that seed and the server's bit,
+// false for 0, true for 1. The list's last query is then no bytes.
+// Reads: the server's own seeds, 16 bytes a report.
+// Writes: a node for each seed; nodes past them are unchanged.
+// Returns the number alone. Refuses with 4, the seeds' length is no multiple of 16; 5; 13, there are fewer nodes than seeds.
+uint64_t tally_roots(bool server,
+                     const uint8_t *seeds, size_t seeds_length,
+                     tally_node *nodes, size_t nodes_count);
+
+// Writes a server's share for a query from kept nodes: goes down one level from the nodes of the last query, and leaves in the list the nodes of
+// the new one. No seeds are lent, and there are as many reports as whole public shares.
+// It is what tally_share writes for the new query, as long as reports, n, expander and server stay the same; the list began at the roots, with
+// no bytes for the last query; and each later call is lent the list as the accepted call before left it, with that call's query as the last.
+// The call cannot see whether that is so: other nodes give another share, and no refusal.
+// Reads: the public shares, TALLY_PUBLIC_SHARE_LENGTH(n) bytes a report; the last query, or no bytes where the list is at the roots; the query,
+// whose prefixes are children of prefixes of the last one, as those of every next query of tally_combine are; reports x prefixes of the last query
+// nodes.
+// Writes: TALLY_SHARE_LENGTH(count) bytes of share, that is 8 for each prefix of the query; and reports x count nodes, while those past them are
+// unchanged. The list needs TALLY_NODES_COUNT(reports, prefixes) nodes for the last query and for the new one, whichever has more.
+// Refuses with 1; 3; 4, public shares are not whole; 5; 6; 7; 9, also where the last query is neither no bytes nor a query; 13; 14; 11. Numbers 6
+// and 7 look at all levels of every lent public share. A refusal changes no node, so that the same list can be lent again.
+tally_reply tally_share_kept(uint64_t n, uint64_t expander, bool server,
+                             const uint8_t *public_shares, size_t public_shares_length,
+                             const uint8_t *last_query, size_t last_query_length,
+                             const uint8_t *query, size_t query_length,
+                             tally_node *nodes, size_t nodes_count,
+                             uint8_t *share, size_t share_length);
 
 // Writes the sum of two shares of one server for one query: for each prefix in order the sum of its two numbers modulo p. Where they are what
 // tally_share writes for two lists of reports, with the same n and expander and at most 65,535 reports together, it is what tally_share

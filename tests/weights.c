@@ -44,7 +44,7 @@ int main(void)
         same("a search that is not weighted", 1 <= t && t <= TALLY_THRESHOLD_MOST ? TALLY_OK : TALLY_REFUSED_THRESHOLD, (int64_t)refused(TALLY_UNWEIGHTED, t));
         same("a weighted search", 1 <= t && t <= TALLY_WEIGHTED_THRESHOLD_MOST ? TALLY_OK : TALLY_REFUSED_WEIGHTED_THRESHOLD, (int64_t)refused(TALLY_WEIGHTED, t));
     }
-    for (uint64_t number = 0; number <= 13; number++)
-        same("a number that has a text", number <= 12, tally_refusal_text(number)[0] != 'u');
+    for (uint64_t number = 0; number <= 15; number++)
+        same("a number that has a text", number <= 14, tally_refusal_text(number)[0] != 'u');
     return EXIT_SUCCESS;
 }

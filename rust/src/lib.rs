@@ -2,7 +2,8 @@
 //!
 //! Each installation makes the public share of its string with [`make_key`] and gives each server one of its two seeds and the public share. For
 //! a query each server makes its [`share`]; where many machines share a server's work, each makes that of its own reports, and [`add_shares`]
-//! adds them. A collector [`combine`]s two shares into the next query, or at last into the list of strings that at least t installations hold;
+//! adds them. A [`KeptServer`] makes the same shares from nodes that it keeps from one query to the next, and does not walk from the root each
+//! time. A collector [`combine`]s two shares into the next query, or at last into the list of strings that at least t installations hold;
 //! [`Collector`] plays that loop, and names the prefix where totals do not add up. [`search`] does all of it where one program holds both
 //! servers' reports. [`exam`](exam()) does it for an exam text, and [`respond`] gives that text's whole output, refusals too.
 //!
@@ -11,7 +12,7 @@
 //!
 //! Each call has two forms. One returns its bytes; the other, whose name ends in `_into`, writes into lent space and returns how many bytes it
 //! wrote; bytes past them are unchanged. [`public_share_length`], [`share_length`], [`answer_space`], [`record_space`],
-//! [`list_space`] and [`EXAM_SPACE`] say how much space to lend.
+//! [`list_space`] and [`EXAM_SPACE`] say how much space to lend, and [`nodes_count`] how many nodes.
 //!
 //! What the calls compute, and when they refuse, is proved of the library. The crate `tally-sys` declares it and turns slices into pointers and
 //! lengths; this one turns numbers into enums and reads what was written; both are plain Rust. n and t are 64-bit numbers, as in the library, so
@@ -72,6 +73,8 @@ mod collector;
 mod collector_error;
 mod combining;
 mod exam;
+mod kept;
+mod kept_server;
 mod keys;
 mod public_share;
 mod read;
@@ -88,6 +91,8 @@ pub use collector::Collector;
 pub use collector_error::CollectorError;
 pub use combining::{combine, combine_into};
 pub use exam::{exam, exam_into, respond, respond_into, EXAM_SPACE};
+pub use kept::{nodes_count, roots, roots_into, share_kept, share_kept_into};
+pub use kept_server::KeptServer;
 pub use keys::{
     block, block_into, make_key, make_key_into, make_weighted_key, make_weighted_key_into,
 };
@@ -101,6 +106,7 @@ pub use space::{
     answer_space, list_space, packed_length, public_share_length, query_length, record_space,
     share_length,
 };
+pub use tally_sys::Node;
 pub use values::{Answer, Expander, Found, Reports, Server};
 pub use views::{List, Query, Record, Round};
 

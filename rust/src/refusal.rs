@@ -3,9 +3,10 @@
 use std::error::Error;
 use std::fmt;
 
-/// Why a call was refused: the first of the causes that applies, in the order of their numbers, but 10 before any other, and 12 in the place of 2.
+/// Why a call was refused: the first of the causes that applies, in the order of their numbers, but 10 before any other, 12 in the place of 2, and
+/// 11 after 13 and 14.
 ///
-/// A refused call leaves every lent byte as it was, except that [`search_into`](crate::search_into) makes the record area zero when it
+/// A refused call leaves every lent byte and node as it was, except that [`search_into`](crate::search_into) makes the record area zero when it
 /// refuses with [`Refusal::Space`].
 ///
 /// ```
@@ -36,7 +37,7 @@ pub enum Refusal {
     SpareBits,
     /// 8: the two servers' public shares differ.
     PublicSharesDiffer,
-    /// 9: the query is not as laid out, is outside its limits, or its prefixes are longer than n.
+    /// 9: the query, or the last query, is not as laid out, is outside its limits, or its prefixes are longer than n.
     Query,
     /// 10: the exam text is not as laid out; only [`exam`](crate::exam()) and [`exam_into`](crate::exam_into) meet it, and [`respond`](crate::respond)
     /// writes it as text.
@@ -45,6 +46,10 @@ pub enum Refusal {
     Space,
     /// 12: the threshold t of a weighted search is not from 1 to 2,147,483,647.
     WeightedThreshold,
+    /// 13: there are fewer nodes than reports × prefixes of the last query or of the new one, or at the roots than seeds.
+    TooFewNodes,
+    /// 14: the parent of a prefix, the prefix without its last bit, was not in the last query.
+    NoParent,
     /// The library answered what its contract rules out, with this number: it never comes from the proved library, only from another one
     /// linked under its name. What was written is then unknown, and the call returns this instead of any answer.
     Unknown(u64),
@@ -70,6 +75,8 @@ impl Refusal {
             Refusal::ExamText => 10,
             Refusal::Space => 11,
             Refusal::WeightedThreshold => 12,
+            Refusal::TooFewNodes => 13,
+            Refusal::NoParent => 14,
             Refusal::Unknown(number) => number,
         }
     }
@@ -89,6 +96,8 @@ impl Refusal {
             10 => Refusal::ExamText,
             11 => Refusal::Space,
             12 => Refusal::WeightedThreshold,
+            13 => Refusal::TooFewNodes,
+            14 => Refusal::NoParent,
             other => Refusal::Unknown(other),
         }
     }
@@ -108,7 +117,7 @@ impl fmt::Display for Refusal {
             Refusal::SpareBits => "spare bits are set in a string or in a public share",
             Refusal::PublicSharesDiffer => "the two servers' public shares differ",
             Refusal::Query => {
-                "the query is not as laid out, is outside its limits, or its prefixes are longer than n"
+                "the query, or the last query, is not as laid out, is outside its limits, or its prefixes are longer than n"
             }
             Refusal::ExamText => "the exam text is not as laid out",
             Refusal::Space => {
@@ -117,6 +126,10 @@ impl fmt::Display for Refusal {
             Refusal::WeightedThreshold => {
                 "the threshold t of a weighted search is not from 1 to 2,147,483,647"
             }
+            Refusal::TooFewNodes => {
+                "there are fewer nodes than reports × prefixes of the last query or of the new one, or at the roots than seeds"
+            }
+            Refusal::NoParent => "the parent of a prefix was not in the last query",
             Refusal::Unknown(number) => {
                 return write!(f, "the linked library answered what its contract rules out, with number {number}")
             }
@@ -135,7 +148,7 @@ mod tests {
         for number in 1..=20 {
             let refusal = Refusal::numbered(number);
             assert_eq!(refusal.number(), number);
-            let known = number <= 12;
+            let known = number <= 14;
             assert_eq!(matches!(refusal, Refusal::Unknown(_)), !known);
         }
     }

@@ -31,13 +31,18 @@ fn parts(list: &str, mark: char, read: impl Fn(&str) -> String) -> Vec<String> {
 
 /// A C type as Rust names it; `tally_combine_reply` is `CombineReply`.
 fn c_type(name: &str) -> String {
+    if let Some(to) = name.strip_suffix(" *") {
+        return match to.strip_prefix("const ") {
+            Some(read) => format!("*const {}", c_type(read)),
+            None => format!("*mut {}", c_type(to)),
+        };
+    }
     let known = match name {
+        "uint8_t" => "u8",
         "uint64_t" => "u64",
         "int16_t" => "i16",
         "size_t" => "usize",
         "bool" => "bool",
-        "uint8_t *" => "*mut u8",
-        "const uint8_t *" => "*const u8",
         _ => {
             let words = name.strip_prefix("tally_").expect(name).split('_');
             return words
@@ -51,7 +56,11 @@ fn c_type(name: &str) -> String {
 /// A C field or parameter as Rust writes it.
 fn c_part(part: &str) -> String {
     let start = part.rfind([' ', '*']).expect(part) + 1;
-    format!("{}: {}", &part[start..], c_type(part[..start].trim_end()))
+    let (name, written) = (&part[start..], c_type(part[..start].trim_end()));
+    match name.strip_suffix(']').and_then(|name| name.split_once('[')) {
+        Some((name, count)) => format!("{name}: [{written}; {count}]"),
+        None => format!("{name}: {written}"),
+    }
 }
 
 fn c_structs(text: &str) -> Vec<Declared> {
@@ -76,9 +85,9 @@ fn c_functions(text: &str) -> Vec<Declared> {
 }
 
 fn rust_structs(text: &str) -> Vec<Declared> {
-    let start = "#[repr(C)] #[derive(Clone, Copy, Debug, PartialEq, Eq)] pub struct ";
-    let structs = between(text, start, "}").map(|found| {
-        let (name, fields) = found.split_once(" {").expect(found);
+    let structs = between(text, "#[repr(C)] ", "}").map(|found| {
+        let (_, declared) = found.split_once("pub struct ").expect(found);
+        let (name, fields) = declared.split_once(" {").expect(found);
         let fields = parts(fields, ',', |field| field.replace("pub ", ""));
         (name.to_string(), fields, String::new())
     });
@@ -106,13 +115,19 @@ fn the_versions_agree() {
 #[test]
 fn the_structs_agree() {
     let declared = rust_structs(&plain(DECLARED));
-    assert_eq!(declared.len(), 3);
+    assert_eq!(declared.len(), 4);
     assert_eq!(c_structs(&plain(HEADER)), declared);
+}
+
+#[test]
+fn a_node_has_no_padding() {
+    assert_eq!(size_of::<tally::Node>(), 17);
+    assert_eq!(align_of::<tally::Node>(), 1);
 }
 
 #[test]
 fn the_functions_agree() {
     let declared = rust_functions(&plain(DECLARED));
-    assert_eq!(declared.len(), 10);
+    assert_eq!(declared.len(), 12);
     assert_eq!(c_functions(&plain(HEADER)), declared);
 }

@@ -1,12 +1,28 @@
 //! The functions of the proved library libcapi.a, declared once for all Rust that calls them, and the same functions on numbers and slices.
 //!
-//! Each unsafe block below is sound for the same reasons. The declarations agree with the library's: a slice is a pointer and a length, and the
-//! structs have C's layout. A slice's pointer is never null, its length is right, and the borrow lasts for the whole call. An area that is
-//! written comes from `&mut`, so it overlaps nothing else. The library is proved, for all inputs, to do nothing undefined and to return; it
-//! borrows its slices for the call alone, and what it returns are numbers. The proof does not cover the compiler's back end, nor these
-//! declarations.
+//! Each unsafe block below is sound for the same reasons. The declarations agree with the library's: a slice is a pointer and a length, that of
+//! nodes a pointer and a count, and the structs have C's layout. A slice's pointer is never null, its length is right, and the borrow lasts for
+//! the whole call. An area that is written comes from `&mut`, so it overlaps nothing else. The library is proved, for all inputs, to do nothing
+//! undefined and to return; it borrows its slices for the call alone, and what it returns are numbers. The bit of a node that it writes is a
+//! `bool`. The proof does not cover the compiler's back end, nor these declarations.
 
 mod library;
+
+use std::fmt;
+
+/// A node of one report at one prefix: its seed and its control bit, 17 bytes without padding. `Debug` shows neither.
+#[repr(C)]
+#[derive(Clone, Copy, Default, PartialEq, Eq)]
+pub struct Node {
+    pub seed: [u8; 16],
+    pub bit: bool,
+}
+
+impl fmt::Debug for Node {
+    fn fmt(&self, f: &mut fmt::Formatter<'_>) -> fmt::Result {
+        f.debug_struct("Node").finish_non_exhaustive()
+    }
+}
 
 /// The number of a refusal, or 0, and how many bytes were written.
 #[repr(C)]
@@ -103,6 +119,54 @@ pub fn share(
             public_shares.len(),
             query.as_ptr(),
             query.len(),
+            share.as_mut_ptr(),
+            share.len(),
+        )
+    }
+}
+
+/// A list of nodes at the roots, a node for each seed, into `nodes`; the number of a refusal, or 0.
+#[inline]
+pub fn roots(server: bool, seeds: &[u8], nodes: &mut [Node]) -> u64 {
+    // SAFETY: each pointer and length or count come from one live slice, and `nodes` is borrowed mutably.
+    unsafe {
+        library::tally_roots(
+            server,
+            seeds.as_ptr(),
+            seeds.len(),
+            nodes.as_mut_ptr(),
+            nodes.len(),
+        )
+    }
+}
+
+/// A server's share for a query from the nodes kept at the last query, into `share`; the nodes of the new query, into `nodes`.
+#[inline]
+#[allow(clippy::too_many_arguments)]
+pub fn share_kept(
+    n: u64,
+    expander: u64,
+    server: bool,
+    public_shares: &[u8],
+    last_query: &[u8],
+    query: &[u8],
+    nodes: &mut [Node],
+    share: &mut [u8],
+) -> Reply {
+    // SAFETY: each pointer and length or count come from one live slice; `nodes` and `share` are borrowed mutably, so they are two areas.
+    unsafe {
+        library::tally_share_kept(
+            n,
+            expander,
+            server,
+            public_shares.as_ptr(),
+            public_shares.len(),
+            last_query.as_ptr(),
+            last_query.len(),
+            query.as_ptr(),
+            query.len(),
+            nodes.as_mut_ptr(),
+            nodes.len(),
             share.as_mut_ptr(),
             share.len(),
         )

@@ -1,6 +1,6 @@
 //! The library's functions as `include/tally.h` declares them.
 
-use super::{CombineReply, Found, Reply};
+use super::{CombineReply, Found, Node, Reply};
 
 #[link(name = "capi", kind = "static")]
 extern "C" {
@@ -37,6 +37,30 @@ extern "C" {
         public_shares_length: usize,
         query: *const u8,
         query_length: usize,
+        share: *mut u8,
+        share_length: usize,
+    ) -> Reply;
+
+    pub fn tally_roots(
+        server: bool,
+        seeds: *const u8,
+        seeds_length: usize,
+        nodes: *mut Node,
+        nodes_count: usize,
+    ) -> u64;
+
+    pub fn tally_share_kept(
+        n: u64,
+        expander: u64,
+        server: bool,
+        public_shares: *const u8,
+        public_shares_length: usize,
+        last_query: *const u8,
+        last_query_length: usize,
+        query: *const u8,
+        query_length: usize,
+        nodes: *mut Node,
+        nodes_count: usize,
         share: *mut u8,
         share_length: usize,
     ) -> Reply;
