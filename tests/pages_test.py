@@ -1,5 +1,5 @@
 #!/usr/bin/env python3
-"""Each line of a program that docs/SERVERS.md and docs/WEIGHTS.md quote stands in a program that the gate runs; each output that these, the README and docs/EXAM.md quote is that of
+"""Each line of a program that docs/SERVERS.md, docs/WEIGHTS.md and docs/KEPT.md quote stands in a program that the gate runs; each output that these, the README and docs/EXAM.md quote is that of
 a sheet, a key or a C example, and refusals are what the programs print; the pages say what examiners and candidates asked for; the README leads to every page of
 docs, and no link of these is broken."""
 import glob
@@ -12,6 +12,7 @@ import sys
 PROGRAMS = {
     "docs/SERVERS.md": ({"c": ["examples/c/two_servers.c", "examples/c/split_server.c"], "rust": ["rust/examples/two_servers.rs"]}, 5),
     "docs/WEIGHTS.md": ({"c": ["examples/c/weights.c"]}, 3),
+    "docs/KEPT.md": ({"c": ["examples/c/kept_nodes.c"], "rust": ["rust/examples/kept_nodes.rs"]}, 4),
 }
 
 # what a page has to say, once, in whatever lines
@@ -93,7 +94,7 @@ def refusals(program, text):
 
 def main():
     exam, key = open("docs/EXAM.md", encoding="utf-8").read().split("\n## The key program\n")
-    for page, least in [("docs/EXAM.md", 6), ("README.md", 3), ("docs/WEIGHTS.md", 1)]:
+    for page, least in [("docs/EXAM.md", 6), ("README.md", 3), ("docs/WEIGHTS.md", 1), ("docs/KEPT.md", 1)]:
         if quoted(page) < least:
             sys.exit("pages_test: %s quotes too little" % page)
     for program, text, least in [("target/bin/exam", exam, 13), ("target/bin/key", key, 8)]:
@@ -110,7 +111,7 @@ def main():
     for path in sorted(glob.glob("docs/*.md") + glob.glob("docs/landings/*.md") + ["CHANGELOG.md"]):
         if path not in led:
             sys.exit("pages_test: the README does not lead to %s" % path)
-    for path in sorted(led | links("docs/SERVERS.md") | links("docs/WEIGHTS.md") | links("docs/EXAM.md") | links("CHANGELOG.md")):
+    for path in sorted(led | links("docs/SERVERS.md") | links("docs/WEIGHTS.md") | links("docs/KEPT.md") | links("docs/EXAM.md") | links("CHANGELOG.md")):
         if not os.path.exists(path):
             sys.exit("pages_test: a link leads to %s, which is not there" % path)
 

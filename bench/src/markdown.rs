@@ -17,7 +17,11 @@ fn cell(timed: &Timed, way: &str, column: Column) -> String {
         .iter()
         .find(|time| time.way == way && time.column == column);
     match found {
-        Some(time) => format!("{} ({:.2})", human(time.ns), timed.times[0].ns / time.ns),
+        Some(time) => {
+            let ratio = timed.times[0].ns / time.ns;
+            let digits = if ratio < 0.1 { 3 } else { 2 };
+            format!("{} ({ratio:.digits$})", human(time.ns))
+        }
         None if column == Column::Hardware && Hardware::found().is_none() => {
             "this processor has none".to_string()
         }
@@ -48,6 +52,24 @@ pub fn print_ratios(all: &[Timed]) {
                 timed.cleared
             );
         }
+    }
+}
+
+/// Prints the ratios of what was measured with kept nodes, a line for each.
+pub fn print_kept(all: &[Timed]) {
+    println!("\nWith kept nodes: time of each subject, and in brackets the ratio: proved with kept nodes / subject.\n");
+    println!("| | proved, kept nodes | proved, from the root | Rust with kept nodes, the same AES | byte-table AES | AES-NI |");
+    println!("|---|---|---|---|---|---|");
+    for timed in all {
+        let columns = [
+            Column::FromRoot,
+            Column::SameCode,
+            Column::ByteTable,
+            Column::Hardware,
+        ];
+        let cells = columns.map(|column| cell(timed, "", column));
+        let proved = human(timed.times[0].ns);
+        println!("| {} | {proved} | {} |", timed.title, cells.join(" | "));
     }
 }
 

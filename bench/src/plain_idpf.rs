@@ -141,7 +141,25 @@ pub fn share_below(
     k: usize,
     x: bool,
 ) -> u64 {
-    let (child, control) = corrected_child(aes, n, share, node, k, x);
+    value_at(
+        aes,
+        n,
+        b,
+        share,
+        corrected_child(aes, n, share, node, k, x),
+        k,
+    )
+}
+
+/// Server b's share of one report at a corrected child of a node of k bits.
+fn value_at(
+    aes: impl Aes,
+    n: usize,
+    b: bool,
+    share: &[u8],
+    (child, control): (Seed, bool),
+    k: usize,
+) -> u64 {
     let mut value = draw(aes.block(&child, 3));
     if control {
         value = add(value, payload_at(n, share, k));
@@ -151,4 +169,19 @@ pub fn share_below(
     } else {
         value
     }
+}
+
+/// The node one bit further down than a node of k bits, and server b's share of one report there.
+pub fn step_below(
+    aes: impl Aes,
+    n: usize,
+    b: bool,
+    share: &[u8],
+    node: (Seed, bool),
+    k: usize,
+    x: bool,
+) -> ((Seed, bool), u64) {
+    let child = corrected_child(aes, n, share, node, k, x);
+    let value = value_at(aes, n, b, share, child, k);
+    ((aes.block(&child.0, 2), child.1), value)
 }

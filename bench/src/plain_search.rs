@@ -1,9 +1,8 @@
-//! The whole search in plain Rust, over any AES and by either way to walk.
+//! The whole search in plain Rust, over any way in which a server makes its shares.
 
-use crate::aes::Aes;
 use crate::plain_combine::{self, Answer};
 use crate::plain_idpf::add;
-use crate::plain_share::{well_formed, write_sums, Walk};
+use crate::plain_share::well_formed;
 use tally::{Reports, Settings};
 
 /// Writes the totals of two shares, 8 bytes each.
@@ -16,12 +15,11 @@ fn write_totals(shares: &[Vec<u8>; 2], out: &mut [u8]) {
     }
 }
 
-/// Record and list of a search that is accepted, written into their areas; their lengths.
+/// Record and list of a search that is accepted, written into their areas; their lengths. `write_share` writes a server's share for a query.
 pub fn search(
-    aes: impl Aes,
-    walk: Walk,
     settings: Settings,
     servers: [Reports; 2],
+    mut write_share: impl FnMut(bool, &[u8], &mut [u8]),
     record: &mut [u8],
     list: &mut [u8],
 ) -> Option<(usize, usize)> {
@@ -42,8 +40,8 @@ pub fn search(
         }
         record[used..totals_at].copy_from_slice(&query);
         let mut shares = [vec![0; 8 * count], vec![0; 8 * count]];
-        for ((server, lent), out) in [(false, zero), (true, one)].into_iter().zip(&mut shares) {
-            write_sums(aes, walk, n, server, lent, (length, &query[6..]), out);
+        for (server, out) in [false, true].into_iter().zip(&mut shares) {
+            write_share(server, &query, out);
         }
         write_totals(&shares, &mut record[totals_at..end]);
         used = end;

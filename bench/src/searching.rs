@@ -1,7 +1,7 @@
 //! The measure of a whole search.
 
 use crate::aes::{over_each, Aes, SameCode, Seed, Work};
-use crate::plain_share::Walk;
+use crate::plain_share::{write_sums, Walk};
 use crate::timing::{Measure, Subject, Timed};
 use crate::Plan;
 use crate::{plain_idpf, plain_search};
@@ -13,7 +13,7 @@ pub type Found = (Vec<u8>, Vec<u8>);
 /// An honest collection: the reports lent to each server for strings of n bits, ten of which are held by one installation in fifty each. In a
 /// weighted search the same strings weigh from −2 to 4, and one on average.
 pub struct Collection {
-    settings: Settings,
+    pub settings: Settings,
     seeds: [Vec<Seed>; 2],
     public_shares: Vec<u8>,
 }
@@ -71,7 +71,7 @@ impl Collection {
     }
 
     /// What each server is lent.
-    fn lent(&self) -> [Reports<'_>; 2] {
+    pub fn lent(&self) -> [Reports<'_>; 2] {
         [0, 1].map(|server| Reports {
             seeds: &self.seeds[server],
             public_shares: &self.public_shares,
@@ -79,7 +79,7 @@ impl Collection {
     }
 
     /// Areas made anew, and of them what a search wrote.
-    fn found(&self, search: impl Fn(&mut [u8], &mut [u8]) -> Option<(usize, usize)>) -> Found {
+    pub fn found(&self, search: impl Fn(&mut [u8], &mut [u8]) -> Option<(usize, usize)>) -> Found {
         let (mut record, mut list) = (vec![0u8; 1 << 20], vec![0u8; 1 << 16]);
         let (record_length, list_length) = search(&mut record, &mut list).expect("accepted");
         record.truncate(record_length);
@@ -109,9 +109,13 @@ impl Work for Searches<'_> {
 
     fn run<A: Aes>(self, aes: A, _: usize) -> Found {
         let (settings, lent) = (self.collection.settings, self.collection.lent());
-        self.collection.found(|record, list| {
-            plain_search::search(aes, self.walk, settings, lent, record, list)
-        })
+        let write_share = |server: bool, query: &[u8], out: &mut [u8]| {
+            let (n, lent) = (settings.n as usize, lent[usize::from(server)]);
+            let length = usize::from(u16::from_be_bytes([query[0], query[1]])) + 1;
+            write_sums(aes, self.walk, n, server, lent, (length, &query[6..]), out);
+        };
+        self.collection
+            .found(|record, list| plain_search::search(settings, lent, write_share, record, list))
     }
 }
 

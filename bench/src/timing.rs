@@ -7,6 +7,7 @@ use std::time::Instant;
 #[derive(Clone, Copy, PartialEq, Eq)]
 pub enum Column {
     Proved,
+    FromRoot,
     SameCode,
     ByteTable,
     Hardware,
@@ -18,6 +19,7 @@ impl Column {
     fn name(self) -> &'static str {
         match self {
             Column::Proved => "proved",
+            Column::FromRoot => "proved, from the root",
             Column::SameCode => "Rust, the same AES",
             Column::ByteTable => "Rust, byte-table AES",
             Column::Hardware => "Rust, AES-NI",

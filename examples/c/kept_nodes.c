@@ -16,7 +16,7 @@
 #define T 2
 #define REPORTS 7
 
-// The most prefixes in one query: two children of each prefix that at least T of the reports hold.
+// The most prefixes in one query, and the most that a server answers for: two children of each prefix that at least T of the reports hold.
 #define MOST_PREFIXES (2 * (REPORTS / T))
 
 // The strings, packed: 0110 twice, 1011 twice, 0001, 0010 and 1100.
@@ -86,11 +86,11 @@ static size_t prefixes(const uint8_t *query)
     return (size_t)query[2] << 24 | (size_t)query[3] << 16 | (size_t)query[4] << 8 | query[5];
 }
 
-// Makes a server's list long enough for a number of prefixes; the nodes that are in it stay.
+// Makes a server's list long enough for a number of prefixes, if they are no more than this server answers for; the nodes that are in it stay.
 static void make_room(server *by, size_t count)
 {
     size_t needed = TALLY_NODES_COUNT(REPORTS, count);
-    if (by->nodes_count < needed) {
+    if (by->nodes_count < needed && count <= MOST_PREFIXES) {
         by->nodes = must_have(realloc(by->nodes, needed * sizeof *by->nodes));
         by->nodes_count = needed;
     }

@@ -131,6 +131,10 @@ fn the_first_of_two_causes_is_returned() {
         lent.query[6] |= 1;
     };
     assert_eq!(accepted().with(wrong).number(), 9);
+    // 13 before 14, also where the lengths alone say that there is no parent.
+    let other = accepted().with(|lent| lent.last = FIRST_QUERY.to_vec());
+    assert_eq!(other.number(), 14);
+    assert_eq!(other.with(|lent| lent.nodes.truncate(17)).number(), 13);
 }
 
 #[test]
