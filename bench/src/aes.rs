@@ -6,9 +6,10 @@ use crate::{plain_aes, same_aes};
 
 pub type Seed = [u8; 16];
 
-/// One block of AES-128 with a seed as its key.
+/// Blocks of AES-128 with a seed as their key: one, or two with one key schedule.
 pub trait Aes: Copy {
     fn block(self, seed: &Seed, j: u64) -> Seed;
+    fn two_blocks(self, seed: &Seed, i: u64, j: u64) -> [Seed; 2];
 }
 
 /// The block number as AES takes it.
@@ -25,6 +26,11 @@ impl Aes for SameCode {
     fn block(self, seed: &Seed, j: u64) -> Seed {
         same_aes::encrypt(*seed, counter(j))
     }
+
+    #[inline(never)]
+    fn two_blocks(self, seed: &Seed, i: u64, j: u64) -> [Seed; 2] {
+        same_aes::encrypt_two(*seed, counter(i), counter(j))
+    }
 }
 
 /// AES as it is often written, with a table of bytes.
@@ -35,6 +41,11 @@ impl Aes for ByteTable {
     #[inline(never)]
     fn block(self, seed: &Seed, j: u64) -> Seed {
         plain_aes::encrypt(seed, &counter(j))
+    }
+
+    #[inline(never)]
+    fn two_blocks(self, seed: &Seed, i: u64, j: u64) -> [Seed; 2] {
+        plain_aes::encrypt_two(seed, &counter(i), &counter(j))
     }
 }
 

@@ -19,7 +19,12 @@ impl Hardware {
 impl Aes for Hardware {
     fn block(self, seed: &Seed, j: u64) -> Seed {
         // SAFETY: there is a `Hardware` only where `found` saw the instructions.
-        unsafe { instructions::encrypt(seed, &crate::aes::counter(j)) }
+        unsafe { instructions::encrypt(seed, [crate::aes::counter(j)])[0] }
+    }
+
+    fn two_blocks(self, seed: &Seed, i: u64, j: u64) -> [Seed; 2] {
+        // SAFETY: there is a `Hardware` only where `found` saw the instructions.
+        unsafe { instructions::encrypt(seed, [i, j].map(crate::aes::counter)) }
     }
 }
 
@@ -36,24 +41,34 @@ mod instructions {
         _mm_xor_si128(k, temp)
     }
 
-    /// The state and the round key after one more round.
+    /// The states and the round key after one more round.
     #[target_feature(enable = "aes,sse2")]
-    unsafe fn round<const R: i32>((s, k): (__m128i, __m128i)) -> (__m128i, __m128i) {
+    unsafe fn round<const R: i32, const N: usize>(
+        (mut states, k): ([__m128i; N], __m128i),
+    ) -> ([__m128i; N], __m128i) {
         let k = next_round_key::<R>(k);
-        (_mm_aesenc_si128(s, k), k)
+        for s in &mut states {
+            *s = _mm_aesenc_si128(*s, k);
+        }
+        (states, k)
     }
 
-    /// AES-128 of one block, with its key schedule.
+    /// AES-128 of some blocks, with one key schedule.
     #[target_feature(enable = "aes,sse2")]
-    pub unsafe fn encrypt(key: &[u8; 16], block: &[u8; 16]) -> [u8; 16] {
+    pub unsafe fn encrypt<const N: usize>(key: &[u8; 16], blocks: [[u8; 16]; N]) -> [[u8; 16]; N] {
         let k = _mm_loadu_si128(key.as_ptr().cast());
-        let s = _mm_xor_si128(_mm_loadu_si128(block.as_ptr().cast()), k);
-        let early = round::<8>(round::<4>(round::<2>(round::<1>((s, k)))));
-        let middle = round::<128>(round::<64>(round::<32>(round::<16>(early))));
-        let (s, k) = round::<27>(middle);
-        let mut out = [0; 16];
-        let last = _mm_aesenclast_si128(s, next_round_key::<54>(k));
-        _mm_storeu_si128(out.as_mut_ptr().cast(), last);
+        let mut states = [k; N];
+        for (s, block) in states.iter_mut().zip(&blocks) {
+            *s = _mm_xor_si128(_mm_loadu_si128(block.as_ptr().cast()), k);
+        }
+        let early = round::<8, N>(round::<4, N>(round::<2, N>(round::<1, N>((states, k)))));
+        let middle = round::<128, N>(round::<64, N>(round::<32, N>(round::<16, N>(early))));
+        let (states, k) = round::<27, N>(middle);
+        let last = next_round_key::<54>(k);
+        let mut out = blocks;
+        for (out, s) in out.iter_mut().zip(states) {
+            _mm_storeu_si128(out.as_mut_ptr().cast(), _mm_aesenclast_si128(s, last));
+        }
         out
     }
 }
@@ -69,6 +84,10 @@ impl Hardware {
 #[cfg(not(target_arch = "x86_64"))]
 impl Aes for Hardware {
     fn block(self, _: &Seed, _: u64) -> Seed {
+        unreachable!("`found` finds nothing here")
+    }
+
+    fn two_blocks(self, _: &Seed, _: u64, _: u64) -> [Seed; 2] {
         unreachable!("`found` finds nothing here")
     }
 }

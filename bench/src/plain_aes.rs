@@ -58,7 +58,17 @@ fn mix_columns(s: &mut [u8; 16]) {
 }
 
 pub fn encrypt(key: &[u8; 16], block: &[u8; 16]) -> [u8; 16] {
+    encrypt_under(&expand_key(key), block)
+}
+
+/// Two blocks with one key schedule.
+pub fn encrypt_two(key: &[u8; 16], first: &[u8; 16], second: &[u8; 16]) -> [[u8; 16]; 2] {
     let w = expand_key(key);
+    [first, second].map(|block| encrypt_under(&w, block))
+}
+
+/// A block under the eleven round keys.
+fn encrypt_under(w: &[u8; 176], block: &[u8; 16]) -> [u8; 16] {
     let mut s = *block;
     add_round_key(&mut s, &w[..16]);
     for round in 1..10 {

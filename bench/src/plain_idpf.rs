@@ -141,26 +141,13 @@ pub fn share_below(
     k: usize,
     x: bool,
 ) -> u64 {
-    value_at(
-        aes,
-        n,
-        b,
-        share,
-        corrected_child(aes, n, share, node, k, x),
-        k,
-    )
+    let child = corrected_child(aes, n, share, node, k, x);
+    value(n, b, share, child.1, k, aes.block(&child.0, 3))
 }
 
-/// Server b's share of one report at a corrected child of a node of k bits.
-fn value_at(
-    aes: impl Aes,
-    n: usize,
-    b: bool,
-    share: &[u8],
-    (child, control): (Seed, bool),
-    k: usize,
-) -> u64 {
-    let mut value = draw(aes.block(&child, 3));
+/// Server b's share of one report one bit further down than a node of k bits, from the control bit and block 3 there.
+fn value(n: usize, b: bool, share: &[u8], control: bool, k: usize, block: Seed) -> u64 {
+    let mut value = draw(block);
     if control {
         value = add(value, payload_at(n, share, k));
     }
@@ -181,7 +168,7 @@ pub fn step_below(
     k: usize,
     x: bool,
 ) -> ((Seed, bool), u64) {
-    let child = corrected_child(aes, n, share, node, k, x);
-    let value = value_at(aes, n, b, share, child, k);
-    ((aes.block(&child.0, 2), child.1), value)
+    let (child, control) = corrected_child(aes, n, share, node, k, x);
+    let [seed, block] = aes.two_blocks(&child, 2, 3);
+    ((seed, control), value(n, b, share, control, k, block))
 }

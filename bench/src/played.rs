@@ -76,7 +76,7 @@ pub fn measure_played(plan: &Plan, n: u64) -> Timed {
         cleared: "yes, made anew as zero bytes",
         calls: 1,
         parts: 1,
-        rounds: if n <= 64 { plan.few() } else { 1 },
+        rounds: if n <= 128 { plan.few() } else { 1 },
     };
     let collection = Collection::new(Settings::new(n, t, Expander::Aes), count);
     let mut subjects = vec![Subject::proved(|_| proved_kept(&collection))];

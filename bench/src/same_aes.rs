@@ -169,3 +169,29 @@ pub fn encrypt(key: [u8; 16], block: [u8; 16]) -> [u8; 16] {
     k = k.next_round_key(table, 9);
     s.sub_bytes(table).shift_rows().add_round_key(k).store()
 }
+
+/// Two blocks with one key schedule.
+pub fn encrypt_two(key: [u8; 16], first: [u8; 16], second: [u8; 16]) -> [[u8; 16]; 2] {
+    let table = &SBOX;
+    let mut k = State::load(key);
+    let mut s = State::load(first).add_round_key(k);
+    let mut u = State::load(second).add_round_key(k);
+    for i in 0..9 {
+        k = k.next_round_key(table, i);
+        s = s
+            .sub_bytes(table)
+            .shift_rows()
+            .mix_columns()
+            .add_round_key(k);
+        u = u
+            .sub_bytes(table)
+            .shift_rows()
+            .mix_columns()
+            .add_round_key(k);
+    }
+    k = k.next_round_key(table, 9);
+    [
+        s.sub_bytes(table).shift_rows().add_round_key(k).store(),
+        u.sub_bytes(table).shift_rows().add_round_key(k).store(),
+    ]
+}
