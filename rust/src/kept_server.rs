@@ -119,7 +119,7 @@ impl<'a> KeptServer<'a> {
             let before = self.nodes.len();
             self.make_room(nodes_count(self.reports, query));
             let share = self.go_down(query);
-            // Of an accepted query the nodes past its own are of no use; of a refused one the new room is.
+            // Nodes past those of the query that was accepted last are of no use.
             let kept = share
                 .as_ref()
                 .map_or(before, |_| nodes_count(self.reports, query));
