@@ -2,14 +2,20 @@
 use calls::Reply;
 use combine::Combined;
 use expander::Choice;
+use nodes::Node;
 use search::Found;
 ghost use mathlib.Core.Path.{_≡_};
+ghost use mathlib.Core.List.{map};
+ghost use lib.ListN.{length};
 ghost use Rattle.calls.specs.Outcome.{left};
 ghost use Rattle.capi.specs.Block.{blockExit};
 ghost use Rattle.capi.specs.Combined.{inC, combineInC};
 ghost use Rattle.exam_answering.specs.Exam.{examExit, respondExit};
 ghost use Rattle.keymaker.specs.Key.{keyExit};
 ghost use Rattle.idpf.specs.Share.{shareExit};
+ghost use Rattle.nodes.specs.NodeLayout.{nodeOf};
+ghost use Rattle.node_lists.specs.Roots.{rootsNumber, rootsAfter};
+ghost use Rattle.node_lists.specs.ShareKept.{lent as keptLent, keptExit, keptLeft};
 ghost use Rattle.search.specs.Search.{lent, searchEnding, returned};
 ghost use Rattle.shares.specs.Add.{addExit};
 ghost use Rattle.space.specs.SearchSpace.{namedRecordSpace, namedListSpace};
@@ -80,6 +86,43 @@ pub extern "C" fn tally_share(
         (now (share .entry)) ⌝ }
 {
     idpf::share(n, expander, server, seeds, public_shares, query, share)
+}
+
+// Writes the list of nodes at the roots: for each seed a node with it and the server's bit. Returns 4, 5 or 13 where it refuses, and else 0.
+#[no_mangle]
+pub extern "C" fn tally_roots(server: bool, seeds: &[u8], nodes: &mut [Node]) -> u64
+    ensures { λ r. ⌜ (r ≡ rootsNumber (now (seeds .entry)) (length (now (nodes .entry))))
+        × (map nodeOf (now (nodes .exit)) ≡ rootsAfter server (now (seeds .entry)) (map nodeOf (now (nodes .entry)))) ⌝ }
+{
+    kept_nodes::write_roots(server, seeds, nodes)
+}
+
+// Writes a server's share for a query from the nodes kept at the last one, and leaves in their place those at the new one; no bytes are lent for the last
+// query where the nodes are at the roots. Refuses with 1, 3, 4, 5, 6, 7, 9, 13, 14 or 11.
+#[no_mangle]
+pub extern "C" fn tally_share_kept(
+    n: u64,
+    expander: u64,
+    server: bool,
+    public_shares: &[u8],
+    last_query: &[u8],
+    query: &[u8],
+    nodes: &mut [Node],
+    share: &mut [u8],
+) -> Reply
+    ensures { λ r. ⌜ keptLeft r (now (share .exit)) (map nodeOf (now (nodes .exit)))
+        ≡ keptExit (keptLent n expander server (now («public_shares» .entry)) (now («last_query» .entry)) (now (query .entry)) (map nodeOf (now (nodes .entry))) (now (share .entry))) ⌝ }
+{
+    kept_nodes::share_kept(
+        n,
+        expander,
+        server,
+        public_shares,
+        last_query,
+        query,
+        nodes,
+        share,
+    )
 }
 
 // Writes the sum, number by number, of two shares of one server for one query; refuses with 4, 6 or 11.

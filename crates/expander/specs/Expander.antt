@@ -40,7 +40,7 @@ abbrev pub choiceOf : ℕ → Choice
 choiceOf e = cond (eqb e 1) (Known Aes) (cond (eqb e 2) (Known Classroom) Unknown)
 
 -- what is written under the expander that was chosen; without one, nothing
-abbrev pub under : Choice → (Expander → List ℕ) → List ℕ
+abbrev pub under : {A : Type 0} → Choice → (Expander → List A) → List A
 under (Known e) f = f e
 under Unknown f = []
 

@@ -23,6 +23,7 @@ use Rattle.tree.proofs.Totals.{Held, kept-few, all-fit, honest-fits}
 use Rattle.tree.proofs.Lengths.{held-record-space, held-list-space, honest-list-space}
 use Rattle.weights.specs.Weights.{EveryOne, heldWeight}
 use Rattle.weights.proofs.HeldWeights.{holders-least}
+use Rattle.report_sums.specs.Reports.{reportCount}
 use Rattle.report_sums.specs.Checks.{wrongLengths, payloadTooLarge, spareBitsSet}
 use Rattle.search.specs.Search.{Lent, reports, countedNumber, thresholdOf, reachesOf, total, recordBytes, listBytes, queriesFit, searchNumber}
 use Rattle.search.proofs.SameBytes.{equal-same}
@@ -78,10 +79,10 @@ module _ (s : Lent) (xs : List Bits) (ws : List ℤ) (honest : Honest s xs ws) (
         passes1 wrongLengths (lent-lengths e (s .expander) named (s .n) from to (reportsOf s xs ws) (reports-made s xs ws honest) few-reports true),
         eq-eqb (length (s .seeds0)) (length (s .seeds1)) lengths,
         le-ltb mostReports (reports s) (omega (arith, few, reports-number s xs ws honest)),
-        passes0 payloadTooLarge (lent-payloads e (s .expander) named (s .n) from to (reportsOf s xs ws) (reports-made s xs ws honest) few-reports false),
-        passes1 payloadTooLarge (lent-payloads e (s .expander) named (s .n) from to (reportsOf s xs ws) (reports-made s xs ws honest) few-reports true),
-        passes0 spareBitsSet (lent-spares e (s .expander) named (s .n) from to (reportsOf s xs ws) (reports-made s xs ws honest) few-reports false),
-        passes1 spareBitsSet (lent-spares e (s .expander) named (s .n) from to (reportsOf s xs ws) (reports-made s xs ws honest) few-reports true),
+        passes0 (λ n seeds shares. payloadTooLarge n (reportCount n seeds shares) shares) (lent-payloads e (s .expander) named (s .n) from to (reportsOf s xs ws) (reports-made s xs ws honest) few-reports false),
+        passes1 (λ n seeds shares. payloadTooLarge n (reportCount n seeds shares) shares) (lent-payloads e (s .expander) named (s .n) from to (reportsOf s xs ws) (reports-made s xs ws honest) few-reports true),
+        passes0 (λ n seeds shares. spareBitsSet n (reportCount n seeds shares) shares) (lent-spares e (s .expander) named (s .n) from to (reportsOf s xs ws) (reports-made s xs ws honest) few-reports false),
+        passes1 (λ n seeds shares. spareBitsSet n (reportCount n seeds shares) shares) (lent-spares e (s .expander) named (s .n) from to (reportsOf s xs ws) (reports-made s xs ws honest) few-reports true),
         equal-same (s .shares0) (s .shares1) (shares0 ∙ sym shares1),
       )
 

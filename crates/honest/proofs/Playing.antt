@@ -43,12 +43,12 @@ module _ (s : Lent) (sound : Sound s) where
     enough : tooLarge s sound k short ps some-kept few sized sorted (spaceFor s q) ≡ false
     enough = neither-test (le-ltb (spaceFor s q) (spaceFor s q) (omega arith)) (ap passesLimit answer-is ∙ within)
 
-    written-is : combineIn s (spaceFor s q) q .written ≡ answerBytes (suc k) a
+    pub written-is : combineIn s (spaceFor s q) q .written ≡ answerBytes (suc k) a
     written-is =
         ap (λ (o : Outcome). o .written) (round-succeeds s sound k short ps some-kept few sized sorted (spaceFor s q) enough)
         ∙ ap₂ answerBytes (round-length s sound k short ps some-kept few sized sorted) answer-is
 
-    kind-is : kindIn s (spaceFor s q) q ≡ some (kind a)
+    pub kind-is : kindIn s (spaceFor s q) q ≡ some (kind a)
     unfolding combineKind
     kind-is =
         ap₂ kindWith (round-number s sound k short ps some-kept few sized sorted (spaceFor s q) ∙ ap (λ (b : Bool). cond b 11 0) enough) answer-is

@@ -77,13 +77,13 @@ module _ (s : Lent) (sound : Sound s) where
     pub round-asks : IsQuery (s .n) q
     round-asks = next-query (s .n) k ps short (omega (arith, sound .not-longer)) some-kept few sized sorted
 
-    passes : isQuery (s .n) q ≡ true
+    pub passes : isQuery (s .n) q ≡ true
     passes = query-passes (s .n) q round-asks
 
     pub round-length : prefixLength q ≡ suc k
     round-length = read-length k (children ps) (omega (arith, sound .not-longer))
 
-    read : prefixesOf q ≡ children ps
+    pub read : prefixesOf q ≡ children ps
     read = read-prefixes k (children ps) (omega (arith, sound .not-longer)) (omega arith) (children-longer k ps sized)
 
     counted : prefixCount q ≡ length (children ps)

@@ -84,10 +84,10 @@ module _ (e : Expander) (number : ℕ) (named : choiceOf number ≡ Known e) (n 
       ap test (lent-public e n from rs made d i l) ∙ all-at (λ r. test (reportPublicShare (scheme e) n r) ≡ true) rs d i a l
 
   -- its payload corrections are below p, and its spare bits zero
-  pub lent-payloads : (b : Bool) → payloadTooLarge n (lentSeeds b rs) (lentShares e n rs) ≡ false
+  pub lent-payloads : (b : Bool) → payloadTooLarge n (reportCount n (lentSeeds b rs) (lentShares e n rs)) (lentShares e n rs) ≡ false
   lent-payloads b = ap not (every-true _ _ (lent-pass b (payloadsBelow p n) (all-map (MadeReport n) _ (λ r h. key-passes e n r h .1) rs made)))
 
-  pub lent-spares : (b : Bool) → spareBitsSet n (lentSeeds b rs) (lentShares e n rs) ≡ false
+  pub lent-spares : (b : Bool) → spareBitsSet n (reportCount n (lentSeeds b rs) (lentShares e n rs)) (lentShares e n rs) ≡ false
   lent-spares b = ap not (every-true _ _ (lent-pass b (spareBitsZero n) (all-map (MadeReport n) _ (λ r h. key-passes e n r h .2) rs made)))
 
   -- For a query and room for 8 bytes a prefix, server b succeeds and writes its sum at each prefix.

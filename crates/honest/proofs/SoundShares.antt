@@ -69,10 +69,10 @@ module _ (n number : ℕ) (e : Expander) (named : choiceOf number ≡ Known e) (
       neither-test (ap not (eq-eqb _ 0 no-rest))
       (neither-test (ap not (eq-eqb _ 0 none-left)) (ap not (eq-eqb _ _ (seeds-count ∙ sym as-many))))
 
-  payloads-small : payloadTooLarge n seeds shares ≡ false
+  payloads-small : payloadTooLarge n (reportCount n seeds shares) shares ≡ false
   payloads-small = ap not (every-true (reportCount n seeds shares) _ (λ i h. lent .payloads i (rw (lent .count) at h)))
 
-  spares-zero : spareBitsSet n seeds shares ≡ false
+  spares-zero : spareBitsSet n (reportCount n seeds shares) shares ≡ false
   spares-zero = ap not (every-true (reportCount n seeds shares) _ (λ i h. lent .spares i (rw (lent .count) at h)))
 
   -- For a query and room for 8 bytes a prefix, server b succeeds and writes its sum at each prefix.

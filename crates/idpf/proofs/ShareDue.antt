@@ -3,25 +3,21 @@ use Prim.Native.Nat.{ℕ, _*_, _/_, _%_, _≤_, _<_}
 use native.Mathlib.Omega.{arith}
 use native.Mathlib.Decide.{decLt}
 use mathlib.Core.Path.{_≡_, sym, _∙_}
-use mathlib.Core.Bool.{Bool, false, not, true≢false, _||_}
+use mathlib.Core.Bool.{Bool, not, true≢false, _||_}
 use mathlib.Core.List.{List}
 use mathlib.Core.Logic.{inl, inr}
-use borrow.Author.Tests.{le-ltb, ltb-false}
 use lib.ListN.{length, getD}
-use lib.Dec.{T, eqb, ltb, not-T}
+use lib.Dec.{T, eqb, not-T}
 use Rattle.calls.specs.Causes.{Due}
-use Rattle.calls.proofs.Decisions.{passed, failed, failed-test, differ, differ-test, either, either-test, above-bounds}
+use Rattle.calls.proofs.Decisions.{passed, failed, differ, differ-test, either, either-test, above-bounds}
 use Rattle.calls.proofs.Judged.{due, none, next, length-decided, expander-decided, reports-decided, space-decided}
-use Rattle.group.specs.Modular.{p}
-use Rattle.point.specs.PublicShare.{publicShareLength, readCorrection, payloadsBelow, spareBitsZero}
-use Rattle.point.proofs.Joined.{every-false, every-fails}
-use Rattle.point.proofs.PublicShare.{spare-set}
+use Rattle.point.specs.PublicShare.{publicShareLength}
 use Rattle.query.specs.Query.{isQuery, prefixCount}
 use Rattle.query.proofs.Queries.{query-exact}
-use Rattle.report_sums.specs.Reports.{reportCount, publicShareAt}
-use Rattle.report_sums.specs.Checks.{WrongLengths, wrongLengths, PayloadTooLarge, payloadTooLarge, SpareBitsSet, spareBitsSet}
+use Rattle.report_sums.specs.Reports.{reportCount}
+use Rattle.report_sums.specs.Checks.{WrongLengths, wrongLengths, payloadTooLarge, spareBitsSet}
 use Rattle.idpf.specs.Share.{shareCauses, shareOutcome}
-use Rattle.report_sums.proofs.Lent.{share-bytes}
+use Rattle.report_sums.proofs.PublicChecks.{too-large, too-large-test, bits-set, bits-set-test}
 use Rattle.idpf.proofs.ShareOutcome.{cause-1, outcome-number}
 
 -- ---- the causes
@@ -42,30 +38,6 @@ module _ (n : ℕ) (seeds shares : List ℕ) where
   pub wrong-test : WrongLengths n seeds shares → T (wrongLengths n seeds shares)
   wrong-test = either-test odd-seeds (odd-shares || other-count) (differ-test _ _) (either-test odd-shares other-count (differ-test _ _) (differ-test _ _))
 
-  pub too-large : T (payloadTooLarge n seeds shares) → PayloadTooLarge n seeds shares
-  unfolding payloadsBelow
-  too-large t =
-      let r = every-fails (reportCount n seeds shares) (λ i. payloadsBelow p n (publicShareAt n shares i)) (failed _ t) in
-      let l = every-fails n (λ k. ltb (readCorrection n (publicShareAt n shares (r .0)) k .payload) p) (r .2) in
-      (r .0, r .1, l .0, l .1, ltb-false _ p (l .2))
-
-  pub too-large-test : PayloadTooLarge n seeds shares → T (payloadTooLarge n seeds shares)
-  unfolding payloadsBelow
-  too-large-test h =
-      let l : payloadsBelow p n (publicShareAt n shares (h .0)) ≡ false = every-false n _ (h .2) (h .3) (le-ltb _ p (h .4)) in
-      failed-test (every-false (reportCount n seeds shares) (λ i. payloadsBelow p n (publicShareAt n shares i)) (h .0) (h .1) l)
-
-  pub bits-set : ((j : ℕ) → getD shares j 0 < 256) → T (spareBitsSet n seeds shares) → SpareBitsSet n seeds shares
-  bits-set byte t =
-      let r = every-fails (reportCount n seeds shares) (λ i. spareBitsZero n (publicShareAt n shares i)) (failed _ t) in
-      let s = spare-set n (publicShareAt n shares (r .0)) (share-bytes n seeds shares (r .0) (r .1) byte .byte (n / 4)) .0 (r .2) in
-      (r .0, r .1, s .0, s .1, s .2, s .3)
-
-  pub bits-set-test : ((j : ℕ) → getD shares j 0 < 256) → SpareBitsSet n seeds shares → T (spareBitsSet n seeds shares)
-  bits-set-test byte h =
-      let s = spare-set n (publicShareAt n shares (h .0)) (share-bytes n seeds shares (h .0) (h .1) byte .byte (n / 4)) .1 (h .2, h .3, h .4, h .5) in
-      failed-test (every-false (reportCount n seeds shares) (λ i. spareBitsZero n (publicShareAt n shares i)) (h .0) (h .1) s)
-
 -- ---- the number that is due
 
 module _ (n e : ℕ) (b : Bool) (seeds shares query : List ℕ) (room : ℕ)
@@ -79,8 +51,8 @@ module _ (n e : ℕ) (b : Bool) (seeds shares query : List ℕ) (room : ℕ)
       (expander-decided e
       (next {b = wrongLengths n seeds shares} (wrong n seeds shares) (wrong-test n seeds shares)
       (reports-decided (length seeds / 16)
-      (next {b = payloadTooLarge n seeds shares} (too-large n seeds shares) (too-large-test n seeds shares)
-      (next {b = spareBitsSet n seeds shares} (bits-set n seeds shares share-byte) (bits-set-test n seeds shares share-byte)
+      (next {b = payloadTooLarge n (reportCount n seeds shares) shares} (too-large n (reportCount n seeds shares) shares) (too-large-test n (reportCount n seeds shares) shares)
+      (next {b = spareBitsSet n (reportCount n seeds shares) shares} (bits-set n (reportCount n seeds shares) shares share-byte) (bits-set-test n (reportCount n seeds shares) shares share-byte)
       (next {b = not (isQuery n query)}
       (λ t q. true≢false (sym (exact .1 q) ∙ failed (isQuery n query) t))
       (λ g. not-T (isQuery n query) (λ t. g (exact .0 (passed (isQuery n query) t))))

@@ -52,14 +52,14 @@ module _ (n e : ℕ) (seeds shares query : List ℕ) (room : ℕ) where
         cause-5 h = rw (h₁, h₃, h₄, h)
 
         module _ (h₅ : ltb mostReports (length seeds / 16) ≡ false) where
-          pub cause-6 : payloadTooLarge n seeds shares ≡ true → 6 ≡ judged causes [] .number
+          pub cause-6 : payloadTooLarge n (reportCount n seeds shares) shares ≡ true → 6 ≡ judged causes [] .number
           cause-6 h = rw (h₁, h₃, h₄, h₅, h)
 
-          module _ (h₆ : payloadTooLarge n seeds shares ≡ false) where
-            pub cause-7 : spareBitsSet n seeds shares ≡ true → 7 ≡ judged causes [] .number
+          module _ (h₆ : payloadTooLarge n (reportCount n seeds shares) shares ≡ false) where
+            pub cause-7 : spareBitsSet n (reportCount n seeds shares) shares ≡ true → 7 ≡ judged causes [] .number
             cause-7 h = rw (h₁, h₃, h₄, h₅, h₆, h)
 
-            module _ (h₇ : spareBitsSet n seeds shares ≡ false) where
+            module _ (h₇ : spareBitsSet n (reportCount n seeds shares) shares ≡ false) where
               pub cause-9 : isQuery n query ≡ false → 9 ≡ judged causes [] .number
               cause-9 h = rw (h₁, h₃, h₄, h₅, h₆, h₇, h)
 

@@ -12,7 +12,7 @@ use Rattle.expander.specs.Expander.{choiceOf, under}
 use Rattle.expander.specs.declared.Expander.{Expander}
 use Rattle.point.specs.Evaluation.{bitOf}
 use Rattle.query.specs.Query.{IsQuery, isQuery, prefixCount, prefixesOf}
-use Rattle.report_sums.specs.Reports.{allCount, serverSum}
+use Rattle.report_sums.specs.Reports.{reportCount, allCount, serverSum}
 use Rattle.report_sums.specs.Checks.{WrongLengths, wrongLengths, PayloadTooLarge, payloadTooLarge, SpareBitsSet, spareBitsSet}
 
 -- the causes
@@ -22,8 +22,8 @@ shareCauses n e seeds shares query room =
     ∷ expanderCause e
     ∷ cause 4 (WrongLengths n seeds shares) (wrongLengths n seeds shares)
     ∷ reportsCause (length seeds / 16)
-    ∷ cause 6 (PayloadTooLarge n seeds shares) (payloadTooLarge n seeds shares)
-    ∷ cause 7 (SpareBitsSet n seeds shares) (spareBitsSet n seeds shares)
+    ∷ cause 6 (PayloadTooLarge n (reportCount n seeds shares) shares) (payloadTooLarge n (reportCount n seeds shares) shares)
+    ∷ cause 7 (SpareBitsSet n (reportCount n seeds shares) shares) (spareBitsSet n (reportCount n seeds shares) shares)
     ∷ cause 9 (IsQuery n query → ⊥) (not (isQuery n query))
     ∷ spaceCause (8 * prefixCount query) room
     ∷ []

@@ -39,8 +39,8 @@ fn share_cause(n: u64, expander: u64, seeds: &[u8], shares: &[u8], query: &[u8],
     if calls::too_many_reports(seeds.len() / 16) {
         return 5;
     }
-    let payloads = all_payloads_below(levels, seeds, shares);
-    let spares = all_spare_bits_zero(levels, seeds, shares);
+    let payloads = all_payloads_below(levels, seeds.len() / 16, shares);
+    let spares = all_spare_bits_zero(levels, seeds.len() / 16, shares);
     if !payloads {
         return 6;
     }

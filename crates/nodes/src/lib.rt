@@ -12,6 +12,7 @@ ghost use Rattle.point.specs.PublicShare.{levelStart, publicShareLength};
 ghost use Rattle.nodes.specs.NodeLayout.{nodeOf};
 
 // A seed and a control bit.
+#[repr(C)]
 pub struct Node {
     pub seed: [u8; 16],
     pub bit: bool,

@@ -18,22 +18,22 @@ use Rattle.report_sums.specs.Reports.{reportCount, seedAt, publicShareAt
 
 -- ---- how many
 
-module _ (n : ℕ) (seeds shares : List ℕ) {l : ℕ} (e : l ≡ publicShareLength n) where
-  pub count-none : l ≡ 0 → 0 ≡ reportCount n seeds shares
+module _ (n seeds : ℕ) (shares : List ℕ) {l : ℕ} (e : l ≡ publicShareLength n) where
+  pub count-none : l ≡ 0 → 0 ≡ min seeds (length shares / publicShareLength n)
   count-none z =
       let none : length shares / publicShareLength n ≡ 0 = ap (λ (m : ℕ). length shares / m) (sym e ∙ z) ∙ div-zero (length shares) in
-      sym (ap (min (length seeds / 16)) none ∙ min-zero (length seeds / 16))
+      sym (ap (min seeds) none ∙ min-zero seeds)
 
-  pub count-seeds : length seeds / 16 < length shares / l → length seeds / 16 ≡ reportCount n seeds shares
-  count-seeds h = sym (ap (λ (m : ℕ). min (length seeds / 16) (length shares / m)) (sym e) ∙ min-eq-left (omega arith))
+  pub count-seeds : seeds < length shares / l → seeds ≡ min seeds (length shares / publicShareLength n)
+  count-seeds h = sym (ap (λ (m : ℕ). min seeds (length shares / m)) (sym e) ∙ min-eq-left (omega arith))
 
-  pub count-shares : length shares / l ≤ length seeds / 16 → length shares / l ≡ reportCount n seeds shares
-  count-shares h = sym (ap (λ (m : ℕ). min (length seeds / 16) (length shares / m)) (sym e) ∙ min-eq-right h)
+  pub count-shares : length shares / l ≤ seeds → length shares / l ≡ min seeds (length shares / publicShareLength n)
+  count-shares h = sym (ap (λ (m : ℕ). min seeds (length shares / m)) (sym e) ∙ min-eq-right h)
 
 -- ---- where
 
 -- piece i of l, where m holds more than i whole ones, ends within m
-pieces-inside : (l i m : ℕ) → i < m / l → l * i + l ≤ m
+pub pieces-inside : (l i m : ℕ) → i < m / l → l * i + l ≤ m
 pieces-inside l i m h =
     let most : l * suc i ≤ l * (m / l) = mul-le-mul-left l h in
     omega (arith, mul-suc l i, div-add-mod m l)

@@ -2,22 +2,24 @@
 use mathlib.Core.Path.{_≡_, refl}
 use mathlib.Core.Bool.{Bool, true, false, not}
 use mathlib.Core.List.{List}
-use Prim.Native.Nat.{ℕ, _+_, _*_, _/_, _%_, _≤_, _<_}
-use native.Mathlib.Nat.{mod-zero, div-zero}
+use Prim.Native.Nat.{ℕ, _+_, _*_, _/_, _%_, _≤_, _<_, min}
+use native.Mathlib.Nat.{mod-zero, div-zero, min-le-right}
 use native.Mathlib.Omega.{arith}
 use lib.ListN.{length, take, drop}
 use lib.Dec.{eqb}
 use borrow.Author.Tests.{eq-eqb, ne-eqb}
 use Rattle.point.specs.PublicShare.{publicShareLength, every}
 use Rattle.point.proofs.Joined.{every-false}
-use Rattle.report_sums.specs.Reports.{reportCount, publicShareAt}
+use Rattle.report_sums.specs.Reports.{publicShareAt}
 use Rattle.report_sums.specs.Checks.{wrongLengths}
-use Rattle.report_sums.proofs.Lent.{share-inside}
+use Rattle.report_sums.proofs.Lent.{pieces-inside}
 
 -- the public share of a report that is counted lies within
-pub report-room : (n : ℕ) (seeds shares : List ℕ) {size count i : ℕ} → size ≡ publicShareLength n → count ≡ reportCount n seeds shares → i < count
-    → size * i + publicShareLength n ≤ length shares
-report-room n seeds shares {size} {count} {i} e f h = omega (arith, e, share-inside n seeds shares i (rw f at h) e)
+pub report-room : (n reports : ℕ) (shares : List ℕ) {size count i : ℕ} → size ≡ publicShareLength n
+    → count ≡ min reports (length shares / publicShareLength n) → i < count → size * i + publicShareLength n ≤ length shares
+report-room n reports shares {size} {count} {i} e f h =
+    let less : i < length shares / size = rw e (omega (arith, f, h, min-le-right reports (length shares / publicShareLength n))) in
+    omega (arith, e, pieces-inside size i (length shares) less)
 
 -- a test that fails at one of m places, and one that passes at all
 pub one-fails : (m : ℕ) (f : ℕ → Bool) {count i : ℕ} → count ≡ m → i < count → f i ≡ false → false ≡ every m f

@@ -4,11 +4,13 @@ use nodes::public_share_length;
 use walk::Shares;
 ghost use mathlib.Core.Path.{_≡_};
 ghost use mathlib.Core.Bool.{cond};
-ghost use Prim.Native.Nat.{_<_};
+ghost use Prim.Native.Nat.{_/_, _<_, min};
+ghost use lib.ListN.{length};
+ghost use Rattle.point.specs.PublicShare.{publicShareLength};
 ghost use Rattle.bits.specs.Packing.{bitsOf};
 ghost use Rattle.group.specs.Modular.{field};
 ghost use Rattle.point.specs.Evaluation.{bitOf};
-ghost use Rattle.report_sums.specs.Reports.{reportCount, counts, lentShare, serverSum};
+ghost use Rattle.report_sums.specs.Reports.{reportCount, publicShareAt, counts, lentShare, serverSum};
 
 // A server's sums at two prefixes.
 pub struct Sums {
@@ -16,21 +18,39 @@ pub struct Sums {
     pub second: u64,
 }
 
-// How many reports are lent: as many as have their seed and their public share in full.
-pub(crate) fn report_count(n: u16, seeds: &[u8], shares: &[u8]) -> usize
-    ensures { λ r. ⌜ r ≡ reportCount n (now (seeds .entry)) (now (shares .entry)) ⌝ }
+// How many reports are lent with so many seeds: as many as have their seed and their public share in full.
+pub(crate) fn report_count(n: u16, seed_count: usize, shares: &[u8]) -> usize
+    ensures { λ r. ⌜ r ≡ min «seed_count» (length (now (shares .entry)) / publicShareLength n) ⌝ }
 {
     let length = public_share_length(n);
     if length == 0 {
         return 0;
     }
-    let seed_count = seeds.len() / 16;
     let share_count = shares.len() / length;
     if seed_count < share_count {
         seed_count
     } else {
         share_count
     }
+}
+
+// The public share of report i, as far as it is lent.
+pub fn public_share_at(n: u16, shares: &[u8], i: usize) -> &[u8]
+    ensures { λ r. ⌜ now r ≡ publicShareAt n (now (shares .entry)) i ⌝ }
+{
+    let length = public_share_length(n);
+    if length == 0 {
+        return &shares[..0];
+    }
+    if shares.len() / length < i {
+        return &shares[..0];
+    }
+    let start = length * i;
+    if shares.len() - start < length {
+        return &shares[start..];
+    }
+    let end = start + length;
+    &shares[start..end]
 }
 
 // Server b's shares of report i, which is lent, at the first k bits of two packed prefixes.
@@ -103,7 +123,7 @@ pub fn server_sums(
     ensures { λ r. ⌜ r .second
         ≡ serverSum e n b (now (seeds .entry)) (now (shares .entry)) (counts (now (marks .entry))) (bitOf (bitsOf (now (second .entry)))) k ⌝ }
 {
-    let mut left = report_count(n, seeds, shares);
+    let mut left = report_count(n, seeds.len() / 16, shares);
     let mut sums = Sums {
         first: 0,
         second: 0,

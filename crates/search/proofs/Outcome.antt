@@ -69,8 +69,8 @@ pub record Whole (n : ℕ) (seeds shares : List ℕ) (C : ℕ) : Type 0 where
 whole : (len w : ℕ) → len % w ≡ 0 → len ≡ w * (len / w)
 whole len w h = omega (arith, div-add-mod' len w, mul-comm w (len / w))
 
-whole-lent : (n : ℕ) (seeds shares : List ℕ) → wrongLengths n seeds shares ≡ false → payloadTooLarge n seeds shares ≡ false
-    → spareBitsSet n seeds shares ≡ false → Whole n seeds shares (length seeds / 16)
+whole-lent : (n : ℕ) (seeds shares : List ℕ) → wrongLengths n seeds shares ≡ false → payloadTooLarge n (reportCount n seeds shares) shares ≡ false
+    → spareBitsSet n (reportCount n seeds shares) shares ≡ false → Whole n seeds shares (length seeds / 16)
 whole-lent n seeds shares w f b =
     let l = neither (not (eqb (length seeds % 16) 0)) _ w in
     let m = neither (not (eqb (length shares % publicShareLength n) 0)) _ (l .1) in
@@ -123,8 +123,8 @@ module _ (s : Lent) where
       let lengths = neither (wrongLengths (s .n) (s .seeds0) (s .shares0)) _ (a .1 .1 .1 .0) in
       let other = neither (wrongLengths (s .n) (s .seeds1) (s .shares1)) _ (lengths .1) in
       let seeds : length (s .seeds0) ≡ length (s .seeds1) = eqb-true _ _ (not-false _ (other .1)) in
-      let payloads = neither (payloadTooLarge (s .n) (s .seeds0) (s .shares0)) _ (a .1 .1 .1 .1 .1 .0) in
-      let spares = neither (spareBitsSet (s .n) (s .seeds0) (s .shares0)) _ (a .1 .1 .1 .1 .1 .1 .0) in
+      let payloads = neither (payloadTooLarge (s .n) (reportCount (s .n) (s .seeds0) (s .shares0)) (s .shares0)) _ (a .1 .1 .1 .1 .1 .0) in
+      let spares = neither (spareBitsSet (s .n) (reportCount (s .n) (s .seeds0) (s .shares0)) (s .shares0)) _ (a .1 .1 .1 .1 .1 .1 .0) in
       record {
         some-bits = bits .0;
         not-longer = bits .1;

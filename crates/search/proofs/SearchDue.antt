@@ -10,8 +10,10 @@ use Rattle.calls.specs.Causes.{Due}
 use Rattle.calls.proofs.Decisions.{passed, failed, failed-test, differ, differ-test, either, either-test}
 use Rattle.calls.proofs.Judged.{number-due, none, next, length-decided, threshold-decided, expander-decided, reports-decided}
 use Rattle.tree.proofs.Limit.{fits-not}
+use Rattle.report_sums.specs.Reports.{reportCount}
 use Rattle.report_sums.specs.Checks.{WrongLengths, wrongLengths, payloadTooLarge, spareBitsSet}
-use Rattle.idpf.proofs.ShareDue.{wrong, wrong-test, too-large, too-large-test, bits-set, bits-set-test}
+use Rattle.idpf.proofs.ShareDue.{wrong, wrong-test}
+use Rattle.report_sums.proofs.PublicChecks.{too-large, too-large-test, bits-set, bits-set-test}
 use Rattle.search.specs.Search.{Lent, reports, recordBytes, listBytes, queriesFit, sameBytes, QueryTooLong, searchCauses, searchNumber}
 use Rattle.search.proofs.SameBytes.{same-equal, equal-same}
 
@@ -83,22 +85,22 @@ search-due s byte0 byte1 =
     (next {b = wrong0 s || (wrong1 s || other-seeds s)} (lengths s) (lengths-test s)
     (reports-decided (reports s)
     (next {b = large0 || large1}
-    (either large0 large1 (too-large (s .n) (s .seeds0) (s .shares0)) (too-large (s .n) (s .seeds1) (s .shares1)))
-    (either-test large0 large1 (too-large-test (s .n) (s .seeds0) (s .shares0)) (too-large-test (s .n) (s .seeds1) (s .shares1)))
+    (either large0 large1 (too-large (s .n) (reportCount (s .n) (s .seeds0) (s .shares0)) (s .shares0)) (too-large (s .n) (reportCount (s .n) (s .seeds1) (s .shares1)) (s .shares1)))
+    (either-test large0 large1 (too-large-test (s .n) (reportCount (s .n) (s .seeds0) (s .shares0)) (s .shares0)) (too-large-test (s .n) (reportCount (s .n) (s .seeds1) (s .shares1)) (s .shares1)))
     (next {b = spare0 || spare1}
-    (either spare0 spare1 (bits-set (s .n) (s .seeds0) (s .shares0) byte0) (bits-set (s .n) (s .seeds1) (s .shares1) byte1))
-    (either-test spare0 spare1 (bits-set-test (s .n) (s .seeds0) (s .shares0) byte0) (bits-set-test (s .n) (s .seeds1) (s .shares1) byte1))
+    (either spare0 spare1 (bits-set (s .n) (reportCount (s .n) (s .seeds0) (s .shares0)) (s .shares0) byte0) (bits-set (s .n) (reportCount (s .n) (s .seeds1) (s .shares1)) (s .shares1) byte1))
+    (either-test spare0 spare1 (bits-set-test (s .n) (reportCount (s .n) (s .seeds0) (s .shares0)) (s .shares0) byte0) (bits-set-test (s .n) (reportCount (s .n) (s .seeds1) (s .shares1)) (s .shares1) byte1))
     (next {b = not (sameBytes (s .shares0) (s .shares1))} (unequal (s .shares0) (s .shares1)) (unequal-test (s .shares0) (s .shares1))
     (next {b = no-record s || (no-list s || not (queriesFit s))} (room s) (room-test s) none)))))))))
   where
     large0 : Bool
-    large0 = payloadTooLarge (s .n) (s .seeds0) (s .shares0)
+    large0 = payloadTooLarge (s .n) (reportCount (s .n) (s .seeds0) (s .shares0)) (s .shares0)
 
     large1 : Bool
-    large1 = payloadTooLarge (s .n) (s .seeds1) (s .shares1)
+    large1 = payloadTooLarge (s .n) (reportCount (s .n) (s .seeds1) (s .shares1)) (s .shares1)
 
     spare0 : Bool
-    spare0 = spareBitsSet (s .n) (s .seeds0) (s .shares0)
+    spare0 = spareBitsSet (s .n) (reportCount (s .n) (s .seeds0) (s .shares0)) (s .shares0)
 
     spare1 : Bool
-    spare1 = spareBitsSet (s .n) (s .seeds1) (s .shares1)
+    spare1 = spareBitsSet (s .n) (reportCount (s .n) (s .seeds1) (s .shares1)) (s .shares1)

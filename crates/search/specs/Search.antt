@@ -17,6 +17,7 @@ use Rattle.query.specs.Query.{packs, limit, children}
 use Rattle.tree.specs.SearchRule.{searchRecord, searchList, searchFits}
 use Rattle.levels.specs.Levels.{totalOf, Ending, endingWith}
 use Rattle.search.specs.declared.Found.{Found}
+use Rattle.report_sums.specs.Reports.{reportCount}
 use Rattle.report_sums.specs.Checks.{WrongLengths, wrongLengths, PayloadTooLarge, payloadTooLarge, SpareBitsSet, spareBitsSet}
 
 -- What a search is lent: the string length, whether it is weighted, the threshold and the expander's number; each server's root seeds and public
@@ -114,8 +115,8 @@ amountCauses n seeds0 shares0 seeds1 shares1 =
 -- of the reports
 abbrev pub publicShareCauses : ℕ → List ℕ → List ℕ → List ℕ → List ℕ → List Cause
 publicShareCauses n seeds0 shares0 seeds1 shares1 =
-    cause 6 (PayloadTooLarge n seeds0 shares0 ⊎ PayloadTooLarge n seeds1 shares1) (payloadTooLarge n seeds0 shares0 || payloadTooLarge n seeds1 shares1)
-    ∷ cause 7 (SpareBitsSet n seeds0 shares0 ⊎ SpareBitsSet n seeds1 shares1) (spareBitsSet n seeds0 shares0 || spareBitsSet n seeds1 shares1)
+    cause 6 (PayloadTooLarge n (reportCount n seeds0 shares0) shares0 ⊎ PayloadTooLarge n (reportCount n seeds1 shares1) shares1) (payloadTooLarge n (reportCount n seeds0 shares0) shares0 || payloadTooLarge n (reportCount n seeds1 shares1) shares1)
+    ∷ cause 7 (SpareBitsSet n (reportCount n seeds0 shares0) shares0 ⊎ SpareBitsSet n (reportCount n seeds1 shares1) shares1) (spareBitsSet n (reportCount n seeds0 shares0) shares0 || spareBitsSet n (reportCount n seeds1 shares1) shares1)
     ∷ cause 8 (shares0 ≢ shares1) (not (sameBytes shares0 shares1))
     ∷ []
 

@@ -5,6 +5,7 @@ ghost use mathlib.Core.List.{[]};
 ghost use lib.ListN.{length};
 ghost use lib.Dec.{eqb};
 ghost use Rattle.calls.specs.Causes.{numberDue};
+ghost use Rattle.report_sums.specs.Reports.{reportCount};
 ghost use Rattle.report_sums.specs.Checks.{wrongLengths, payloadTooLarge, spareBitsSet};
 ghost use Rattle.search.specs.Search.{lent, sameBytes, settingsCauses, amountCauses, publicShareCauses, lentCauses};
 
@@ -41,22 +42,22 @@ fn lengths_wrong(n: u16, seeds0: &[u8], shares0: &[u8], seeds1: &[u8], shares1: 
 
 // Whether a payload correction lent for either server is p or more.
 fn payload_too_large(n: u16, seeds0: &[u8], shares0: &[u8], seeds1: &[u8], shares1: &[u8]) -> bool
-    ensures { λ r. ⌜ r ≡ (payloadTooLarge n (now (seeds0 .entry)) (now (shares0 .entry)) || payloadTooLarge n (now (seeds1 .entry)) (now (shares1 .entry))) ⌝ }
+    ensures { λ r. ⌜ r ≡ (payloadTooLarge n (reportCount n (now (seeds0 .entry)) (now (shares0 .entry))) (now (shares0 .entry)) || payloadTooLarge n (reportCount n (now (seeds1 .entry)) (now (shares1 .entry))) (now (shares1 .entry))) ⌝ }
 {
-    if !report_sums::all_payloads_below(n, seeds0, shares0) {
+    if !report_sums::all_payloads_below(n, seeds0.len() / 16, shares0) {
         return true;
     }
-    !report_sums::all_payloads_below(n, seeds1, shares1)
+    !report_sums::all_payloads_below(n, seeds1.len() / 16, shares1)
 }
 
 // Whether spare bits of a public share lent for either server are set.
 fn spare_bits_set(n: u16, seeds0: &[u8], shares0: &[u8], seeds1: &[u8], shares1: &[u8]) -> bool
-    ensures { λ r. ⌜ r ≡ (spareBitsSet n (now (seeds0 .entry)) (now (shares0 .entry)) || spareBitsSet n (now (seeds1 .entry)) (now (shares1 .entry))) ⌝ }
+    ensures { λ r. ⌜ r ≡ (spareBitsSet n (reportCount n (now (seeds0 .entry)) (now (shares0 .entry))) (now (shares0 .entry)) || spareBitsSet n (reportCount n (now (seeds1 .entry)) (now (shares1 .entry))) (now (shares1 .entry))) ⌝ }
 {
-    if !report_sums::all_spare_bits_zero(n, seeds0, shares0) {
+    if !report_sums::all_spare_bits_zero(n, seeds0.len() / 16, shares0) {
         return true;
     }
-    !report_sums::all_spare_bits_zero(n, seeds1, shares1)
+    !report_sums::all_spare_bits_zero(n, seeds1.len() / 16, shares1)
 }
 
 // The number of the first of these causes of the settings that applies, or 0.

@@ -55,6 +55,15 @@ module _ (e : Expander) where
     unfolding shareBelow
     below-plain b t = rw t corrected-value
 
+  -- the share below, from the drawn payload of the corrected child
+  pub below-share : (c : Correction ℕ) (x : Bool) (n m : Node) {w v r : ℕ} (b : Bool) → m ≡ correctedChild (scheme e) c x n → w ≡ payloadOf (scheme e) m
+      → v ≡ cond (m .bit) (field .add w (c .payload)) w → r ≡ cond b (field .neg v) v → r ≡ shareBelow (scheme e) b c x n
+  unfolding shareBelow correctedPayload fieldScheme
+  below-share c x n m {w} {v} b g h k l =
+      let value : v ≡ correctedPayload (scheme e) (c .payload) (correctedChild (scheme e) c x n) =
+      k ∙ ap (λ (y : ℕ). cond (m .bit) (field .add y (c .payload)) y) h ∙ ap (correctedPayload (scheme e) (c .payload)) g in
+      l ∙ ap (λ (y : ℕ). cond b (field .neg y) y) value
+
 -- one level of the walk, as the code counts: from k − 1 to k
 module _ (e : Expander) (c : ℕ → Correction ℕ) (s : List ℕ) (b : Bool) (q : ℕ → Bool) (k : ℕ) where
   pub node-root : k ≡ 0 → _≡_ {A = Node} (record { seed = s; bit = b }) (node (scheme e) c s b q k)

@@ -20,7 +20,7 @@ fn bit_correction(c: Correction, x: bool) -> bool
 }
 
 // The child of a node on side x, corrected.
-fn corrected_child(e: Expander, c: Correction, x: bool, m: Node) -> Node
+pub(crate) fn corrected_child(e: Expander, c: Correction, x: bool, m: Node) -> Node
     ensures { λ r. ⌜ nodeOf r ≡ correctedChild (scheme e) (correctionOf c) x (nodeOf m) ⌝ }
 {
     let seed = m.seed;

@@ -11,6 +11,7 @@ use Rattle.calls.specs.Bounds.{mostBits, mostReports, outside}
 use Rattle.calls.proofs.Decisions as calls
 use Rattle.expander.specs.Expander.{isExpander}
 use Rattle.query.specs.Query.{isQuery}
+use Rattle.report_sums.specs.Reports.{reportCount}
 use Rattle.report_sums.specs.Checks.{wrongLengths, payloadTooLarge, spareBitsSet}
 use Rattle.idpf.proofs.ShareOutcome.{cause-1, cause-3, cause-4, cause-5, cause-6, cause-7, cause-9, cause-11, no-cause}
 use Rattle.idpf.proofs.shares.share_cause.Statement.{statement}
@@ -51,10 +52,10 @@ lengths c = sym (c .before .wrong-lengths .ensures) ∙ c .if3 .left
 few : (c : tie.Else4) → ltb mostReports (length (start₄ c .args .seeds .now) / 16) ≡ false
 few c = sym (c .before .too-many-reports .ensures) ∙ c .if4 .left
 
-payloads : (c : tie.Else5) → payloadTooLarge (start₅ c .args .n) (start₅ c .args .seeds .now) (start₅ c .args .shares .now) ≡ false
+payloads : (c : tie.Else5) → payloadTooLarge (start₅ c .args .n) (reportCount (start₅ c .args .n) (start₅ c .args .seeds .now) (start₅ c .args .shares .now)) (start₅ c .args .shares .now) ≡ false
 payloads c = not-true _ (sym (c .before .before .all-payloads-below .ensures) ∙ not-false _ (c .if5 .left))
 
-spares : (c : tie.Else6) → spareBitsSet (start₆ c .args .n) (start₆ c .args .seeds .now) (start₆ c .args .shares .now) ≡ false
+spares : (c : tie.Else6) → spareBitsSet (start₆ c .args .n) (reportCount (start₆ c .args .n) (start₆ c .args .seeds .now) (start₆ c .args .shares .now)) (start₆ c .args .shares .now) ≡ false
 spares c = not-true _ (sym (c .before .before .all-spare-bits-zero .ensures) ∙ not-false _ (c .if6 .left))
 
 a-query : (c : tie.Else7) → isQuery (start₇ c .args .n) (start₇ c .args .query .now) ≡ true

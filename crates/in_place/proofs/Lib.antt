@@ -1,0 +1,9 @@
+pub mod AnyOrder
+pub mod InTurns
+pub mod Added
+pub mod Lengths
+pub mod Sources
+pub mod SumsInTurns
+pub mod Level
+pub mod Found
+pub mod Folded

@@ -1,0 +1,10 @@
+pub mod ByReport
+pub mod RootsOutcome
+pub mod KeptOutcome
+pub mod KeptDue
+pub mod OneDown
+pub mod Chain
+pub mod Following
+pub mod Examples
+pub mod Overlaid
+pub mod AtRoots

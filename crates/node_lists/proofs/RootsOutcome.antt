@@ -1,0 +1,69 @@
+-- The outcome of `write_roots`: a refusal changes nothing, and what is written begins a session.
+use Prim.Native.Nat.{ℕ, _/_, _%_, _≤_}
+use native.Mathlib.Omega.{arith}
+use mathlib.Core.Path.{_≡_, refl, sym, ap, _∙_, subst}
+use mathlib.Core.Bool.{Bool, true, false, not}
+use mathlib.Core.List.{List, []}
+use mathlib.Core.Logic.{_≢_}
+use borrow.Author.Tests.{eqb-true, eqb-false, eq-eqb, ne-eqb, le-ltb, ltb-false, not-false}
+use lib.ListN.{length}
+use lib.Dec.{eqb}
+use Rattle.places.specs.Places.{overlay}
+use Rattle.places.proofs.Places.{overlay-nil, overlay-length}
+use Rattle.calls.specs.Bounds.{mostReports}
+use Rattle.calls.proofs.Judged.{number-clear}
+use Rattle.point.specs.Node.{Node}
+use Rattle.tree.specs.SearchRule.{start}
+use Rattle.node_lists.specs.Roots.{roots, rootsCauses, rootsNumber, rootsAfter}
+use Rattle.node_lists.specs.Sessions.{Session, Reached, at-roots}
+use Rattle.node_lists.proofs.ByReport.{by-report-length}
+
+-- The seeds are whole and not too many, and the nodes are enough.
+pub record Whole (seeds : List ℕ) (count : ℕ) : Type 0 where
+  pub no-rest : length seeds % 16 ≡ 0
+  pub few : length seeds / 16 ≤ mostReports
+  pub enough : length seeds / 16 ≤ count
+
+module _ (seeds : List ℕ) (count : ℕ) where
+  pub roots-whole : rootsNumber seeds count ≡ 0 → Whole seeds count
+  roots-whole h =
+      let t = number-clear (rootsCauses seeds count) (omega arith, (omega arith, (omega arith, tt))) h in
+      record {
+        no-rest = eqb-true _ 0 (not-false _ (t .0));
+        few = ltb-false mostReports (length seeds / 16) (t .1 .0);
+        enough = ltb-false count (length seeds / 16) (t .1 .1 .0);
+      }
+
+  pub whole-roots : Whole seeds count → rootsNumber seeds count ≡ 0
+  whole-roots w = rw (eq-eqb (length seeds % 16) 0 (w .no-rest), le-ltb mostReports (length seeds / 16) (w .few), le-ltb count (length seeds / 16) (w .enough))
+
+module _ (b : Bool) (seeds : List ℕ) where
+  -- one node for each seed
+  pub roots-one-each : length (roots b seeds) ≡ length seeds / 16
+  unfolding roots
+  roots-one-each = by-report-length _ start (length seeds / 16) ∙ omega arith
+
+  module _ (nodes : List Node) where
+    pub roots-refused : rootsNumber seeds (length nodes) ≢ 0 → rootsAfter b seeds nodes ≡ nodes
+    unfolding rootsAfter
+    roots-refused h = rw (ne-eqb (rootsNumber seeds (length nodes)) 0 h) (overlay-nil nodes)
+
+    pub roots-accepted : rootsNumber seeds (length nodes) ≡ 0 → rootsAfter b seeds nodes ≡ overlay (roots b seeds) nodes
+    unfolding rootsAfter
+    roots-accepted h = rw (eq-eqb (rootsNumber seeds (length nodes)) 0 h)
+
+    -- as many nodes at exit as at entry
+    pub roots-as-many : length (rootsAfter b seeds nodes) ≡ length nodes
+    roots-as-many = go (eqb (rootsNumber seeds (length nodes)) 0) refl
+      where
+        go : (r : Bool) → eqb (rootsNumber seeds (length nodes)) 0 ≡ r → length (rootsAfter b seeds nodes) ≡ length nodes
+        go true e =
+            let h : rootsNumber seeds (length nodes) ≡ 0 = eqb-true _ 0 e in
+            ap length (roots-accepted h) ∙ overlay-length (roots b seeds) nodes (omega (arith, roots-one-each, roots-whole seeds (length nodes) h .enough))
+        go false e = ap length (roots-refused (eqb-false _ 0 e))
+
+-- a list that the call has begun may be given to the first call of a session
+pub roots-reached : (s : Session) (nodes : List Node) → rootsNumber (s .seeds) (length nodes) ≡ 0 → Reached s [] (rootsAfter (s .server) (s .seeds) nodes)
+roots-reached s nodes h =
+    subst (Reached s []) (sym (roots-accepted (s .server) (s .seeds) nodes h))
+    (at-roots nodes (omega (arith, s .as-many, roots-whole (s .seeds) (length nodes) h .enough)))

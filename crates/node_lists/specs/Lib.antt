@@ -1,0 +1,5 @@
+pub mod NodeList
+pub mod Roots
+pub mod Filling
+pub mod ShareKept
+pub mod Sessions
