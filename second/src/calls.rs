@@ -8,7 +8,7 @@ use crate::{field, judge, keys, Reply};
 
 impl Reply {
     /// Refuses with the judged number, or where it is 0 writes what is made.
-    fn settle(number: u64, space: &mut [u8], make: impl FnOnce() -> Vec<u8>) -> Reply {
+    pub(crate) fn settle(number: u64, space: &mut [u8], make: impl FnOnce() -> Vec<u8>) -> Reply {
         if number != 0 {
             return Reply { number, length: 0 };
         }

@@ -1,5 +1,10 @@
 //! The number with which each of document 01's four calls refuses, or 0, with request [1] of
-//! document 02; so too for adding two shares of one server, which document 01 does not have.
+//! document 02; so too for adding two shares of one server, which document 01 does not have. The
+//! calls of request [2] stand in `judge/kept.rs`.
+
+mod kept;
+
+pub use kept::{roots, share_kept};
 
 /// The group's modulus p.
 pub const P: u64 = 18_446_744_069_414_584_321;

@@ -20,9 +20,9 @@ pub fn public_share_size(n: usize) -> usize {
 }
 
 /// The seed and control bit that a server has at one prefix.
-#[derive(Clone, Copy)]
-pub(crate) struct Node {
-    seed: Seed,
+#[derive(Clone, Copy, Debug, PartialEq, Eq)]
+pub struct Node {
+    pub seed: Seed,
     pub control: bool,
 }
 
@@ -53,7 +53,7 @@ impl Node {
     }
 
     /// The child on one side, after correction.
-    pub fn corrected(self, expander: Expander, side: bool, correction: &Correction) -> Node {
+    pub(crate) fn corrected(self, expander: Expander, side: bool, correction: &Correction) -> Node {
         let mut child = self.child(expander, side);
         if self.control {
             child.seed = xor(&child.seed, &correction.seed);
@@ -138,6 +138,14 @@ impl<'a> Reader<'a> {
             head,
             levels,
             next: 0,
+        }
+    }
+
+    /// The same reader before the level below prefixes of so many bits.
+    pub fn below(self, length: usize) -> Reader<'a> {
+        Reader {
+            next: length,
+            ..self
         }
     }
 

@@ -1,5 +1,5 @@
-//! The second program: document 01, and request [1] of document 02, written again, plainly, by
-//! another hand.
+//! The second program: document 01, and requests [1] and [2] of document 02, written again,
+//! plainly, by another hand.
 
 #![forbid(unsafe_code)]
 
@@ -13,6 +13,7 @@ pub mod exam;
 pub mod expander;
 pub mod field;
 pub mod judge;
+pub mod kept;
 pub mod key_text;
 pub mod keys;
 pub mod query;
@@ -25,7 +26,9 @@ pub mod text;
 pub use calls::{add_shares, block, key, share};
 pub use combine::combine;
 pub use exam::{exam, exam_into, respond_into};
+pub use kept::{roots, share_kept};
 pub use key_text::key_text;
+pub use keys::Node;
 pub use search::search;
 pub use space::{list_space, record_space};
 

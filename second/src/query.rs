@@ -53,6 +53,19 @@ impl<'a> Query<'a> {
         }
     }
 
+    /// The last query in some bytes; no bytes are the empty prefix alone.
+    pub fn last(bytes: &'a [u8]) -> Query<'a> {
+        if bytes.is_empty() {
+            Query {
+                length: 0,
+                count: 1,
+                prefixes: &[],
+            }
+        } else {
+            Query::of(bytes)
+        }
+    }
+
     /// Prefix i, packed, counted from 0.
     pub fn prefix(&self, i: usize) -> &'a [u8] {
         let size = packed_size(self.length);
@@ -84,6 +97,11 @@ pub fn child(prefix: &[u8], length: usize, last: bool) -> Vec<u8> {
     child
 }
 
+/// A packed prefix of so many bits, 1 or more, without its last bit.
+pub fn parent(prefix: &[u8], length: usize) -> Vec<u8> {
+    pack(&unpack(prefix, length - 1))
+}
+
 #[cfg(test)]
 mod tests {
     use super::*;
@@ -113,6 +131,28 @@ mod tests {
                 assert_eq!(child(&pack(&string), bits, last), pack(&longer));
             }
         }
+    }
+
+    #[test]
+    fn a_parent_is_what_its_children_were_made_of() {
+        let mut chance = Chance(8);
+        for bits in 0..256 {
+            let string = pack(&chance.string(bits));
+            for last in [false, true] {
+                assert_eq!(parent(&child(&string, bits, last), bits + 1), string);
+            }
+        }
+    }
+
+    #[test]
+    fn a_last_query_of_no_bytes() {
+        let query = Query::last(&[]);
+        assert_eq!((query.length, query.count), (0, 1));
+        assert!(query.prefix(0).is_empty());
+        let first = first();
+        let query = Query::last(&first);
+        assert_eq!((query.length, query.count), (1, 2));
+        assert_eq!((query.prefix(0), query.prefix(1)), (&[0][..], &[0x80][..]));
     }
 
     #[test]
