@@ -3,6 +3,7 @@
 #![forbid(unsafe_code)]
 
 pub mod calls;
+pub mod kept;
 pub mod make;
 pub mod queries;
 pub mod sheets;

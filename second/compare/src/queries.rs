@@ -9,6 +9,11 @@ use std::collections::BTreeSet;
 pub fn good(rng: &mut Rng, n: usize, strings: &[Vec<bool>]) -> Vec<u8> {
     let any = 1 + rng.below(n);
     let length = rng.pick(&[1, n, n, any]);
+    of_length(rng, length, strings)
+}
+
+/// A right query of prefixes of so many bits, near the given strings.
+pub fn of_length(rng: &mut Rng, length: usize, strings: &[Vec<bool>]) -> Vec<u8> {
     let mut prefixes = BTreeSet::new();
     if length <= 3 && rng.coin() {
         prefixes.extend((0..1u8 << length).map(|i| vec![i << (8 - length)]));

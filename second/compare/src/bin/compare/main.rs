@@ -17,6 +17,20 @@ mod combines;
 mod exam_cases;
 #[cfg(feature = "exam")]
 mod exams;
+#[cfg(feature = "kept")]
+mod kept_call;
+#[cfg(feature = "kept")]
+mod kept_cases;
+#[cfg(feature = "kept")]
+mod kept_chains;
+#[cfg(feature = "kept")]
+mod kept_known;
+#[cfg(feature = "kept")]
+mod kept_largest;
+#[cfg(feature = "kept")]
+mod kept_queries;
+#[cfg(feature = "kept")]
+mod kepts;
 #[cfg(feature = "keys")]
 mod keys;
 #[cfg(feature = "search")]
@@ -44,7 +58,7 @@ use compare::{calls, tally};
 use std::process::ExitCode;
 
 /// The numbers each call must have been seen to return.
-const NUMBERS: [(&str, bool, &[u64]); 10] = [
+const NUMBERS: [(&str, bool, &[u64]); 12] = [
     ("block", cfg!(feature = "block"), &[0, 3, 4, 11]),
     ("key", cfg!(feature = "keys"), &[0, 1, 3, 4, 7, 11]),
     (
@@ -65,6 +79,12 @@ const NUMBERS: [(&str, bool, &[u64]); 10] = [
     ),
     ("record space", cfg!(feature = "search"), &[0]),
     ("list space", cfg!(feature = "search"), &[0]),
+    (
+        "share kept",
+        cfg!(feature = "kept"),
+        &[0, 1, 3, 4, 5, 6, 7, 9, 11, 13, 14],
+    ),
+    ("roots", cfg!(feature = "kept"), &[0, 4, 5, 13]),
     ("exam", cfg!(feature = "exam"), &[0, 1, 2, 3, 10, 11]),
     ("respond", cfg!(feature = "exam"), &[0, 11]),
 ];
@@ -88,7 +108,7 @@ fn main() -> ExitCode {
     }
     println!("seed={seed} calls={count} of each kind, special and fixed calls besides");
     if NUMBERS.iter().all(|(_, on, _)| !on) {
-        eprintln!("build with --features block, keys, combine, search or exam");
+        eprintln!("build with --features block, keys, combine, search, kept or exam");
         return ExitCode::from(2);
     }
     println!("compared with: {}", calls::NAME);
@@ -106,6 +126,8 @@ fn main() -> ExitCode {
     searches::run(seed, count, &mut tally);
     #[cfg(feature = "search")]
     spaces::run(seed, count, &mut tally);
+    #[cfg(feature = "kept")]
+    kepts::run(seed, count, &mut tally);
     #[cfg(feature = "exam")]
     exams::run(seed, count, &mut tally);
     tally.print();

@@ -5,6 +5,8 @@
 
 mod inputs;
 mod judged;
+#[cfg(feature = "kept")]
+mod kept;
 mod making;
 mod round;
 

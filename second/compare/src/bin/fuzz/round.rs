@@ -16,12 +16,12 @@ use second::rng::Rng;
 const NODES: usize = 20_000;
 
 /// The reports of one round.
-struct Reports {
-    n: usize,
-    expander: u64,
-    strings: Vec<Vec<bool>>,
-    seeds: [Vec<u8>; 2],
-    public: Vec<u8>,
+pub struct Reports {
+    pub n: usize,
+    pub expander: u64,
+    pub strings: Vec<Vec<bool>>,
+    pub seeds: [Vec<u8>; 2],
+    pub public: Vec<u8>,
 }
 
 /// Makes every call of a round, which depends on the seed and the round's number alone.
@@ -35,6 +35,8 @@ pub fn run(seed: u64, judged: &mut Judged) {
     fuzz.adds(&shares);
     fuzz.combines(reports.n as u64, &query, &shares);
     fuzz.searches(&reports);
+    #[cfg(feature = "kept")]
+    fuzz.keeps(&reports);
     fuzz.wild();
     if fuzz.rng.below(1000) == 0 {
         fuzz.many();
@@ -203,6 +205,8 @@ impl Fuzz<'_> {
         let fields = (n, weighted, t, expander);
         self.search(fields, [a, b, c, d], [rooms[3], rooms[4]]);
         self.add([a, b], rooms[5]);
+        #[cfg(feature = "kept")]
+        self.wild_kept((n, expander, server), [a, b, c]);
     }
 
     /// As many reports as there may be, or one more, all of them zero bytes.
@@ -216,6 +220,8 @@ impl Fuzz<'_> {
         let inputs = [&seeds[..], &public, &seeds, &public];
         self.search((1, weighted, 1, 2), inputs, [24, 2]);
         self.add([&seeds, &seeds], seeds.len());
+        #[cfg(feature = "kept")]
+        self.many_kept(&seeds, &public);
     }
 
     /// A small sheet, the same changed a little, and a text of any bytes.
