@@ -104,7 +104,7 @@ fn at_the_roots(rng: &mut Rng, tally: &mut Tally, side: &Side, lent: usize) -> L
     }
 }
 
-/// Goes down one level, with refused calls before it; gives the library's share.
+/// Goes down one level, with refused calls before it; gives the library's share where it is one.
 fn down(
     rng: &mut Rng,
     tally: &mut Tally,
@@ -112,7 +112,7 @@ fn down(
     side: &Side,
     list: &mut List,
     query: &[u8],
-) -> Vec<u8> {
+) -> Option<Vec<u8>> {
     let asked = Query::of(query).count;
     let call = Call {
         n: side.of.n as u64,
@@ -149,11 +149,11 @@ fn down(
     let plan = Plan::fixed(name, &[0, 8 * asked as u64]);
     let made = compare(rng, &plan, &call, tally);
     let used = side.of.strings.len() * asked;
-    if made.nodes[used..] != list.nodes[used..] {
+    if made.nodes.get(used..) != list.nodes.get(used..) {
         tally.fault("share kept: a spare node changed");
     }
     (list.nodes, list.last) = (made.nodes, query.to_vec());
-    made.share
+    Some(made.share).filter(|share| share.len() == 8 * asked)
 }
 
 /// Random queries from the roots down to the last level.
@@ -168,7 +168,9 @@ fn chain(rng: &mut Rng, tally: &mut Tally, name: &'static str, side: &Side, most
             let few = 1 + rng.below(most);
             some_below(rng, &list.last, few)
         };
-        let share = down(rng, tally, name, side, &mut list, &query);
+        let Some(share) = down(rng, tally, name, side, &mut list, &query) else {
+            return;
+        };
         if side.of.n < 200 || level % 40 == 0 || level > 252 {
             walked(tally, side, &query, &share);
         }
@@ -224,7 +226,7 @@ fn search(
         .map(|side| at_the_roots(rng, tally, side, lent));
     let (mut query, mut kept_record) = (first(), Vec::new());
     let kept_list = loop {
-        let [share0, share1] = [0, 1].map(|b| {
+        let shares = [0, 1].map(|b| {
             let name = if weighted {
                 "a weighted search"
             } else {
@@ -232,6 +234,9 @@ fn search(
             };
             down(rng, tally, name, &sides[b], &mut lists[b], &query)
         });
+        let [Some(share0), Some(share1)] = shares else {
+            return false;
+        };
         kept_record.extend_from_slice(&query);
         for (one, other) in share0.chunks(8).zip(share1.chunks(8)) {
             kept_record.extend(add(read(one), read(other)).to_le_bytes());
