@@ -23,13 +23,17 @@ use Rattle.expander.specs.declared.Choice.the-variants.{Known, Unknown}
 use Rattle.expander.proofs.Sized.{block-length}
 use Rattle.combine.specs.Answer.{Kind}
 use Rattle.search.specs.Search.{Lent, recordBytes, listBytes, searchNumber, recordLength, listLength, recordAfter, listAfter}
+use Rattle.node_lists.specs.ShareKept.{causesOf, keptOutcome}
+use Rattle.node_lists.proofs.KeptOutcome.{kept-number, kept-refused, nodes-refused, kept-ready, nodes-as-many, kept-room, spare-nodes}
+use Rattle.node_lists.proofs.KeptDue.{kept-due, roots-due}
+use Rattle.node_lists.proofs.RootsOutcome.{roots-whole, roots-refused, roots-as-many, spare-roots}
 use Rattle.honest.proofs.Demand1 as call
 use Rattle.exam_answering.proofs.ExamTheorems as exam
 use Rattle.exam_answering.proofs.Outputs as outputs
 use Rattle.capi.specs.Block.{blockCauses, blockOutcome}
 use Rattle.capi.proofs.Block.{block-due}
-use Rattle.demands.specs.Calls.{BlockLent, SearchLent, makeKey, serverShare, addShares, combining, wholeSearch, examAnswer, refusedLine, examOutput, oneBlock, Result, into, causes, rank, InOrder, result}
-use Rattle.demands.specs.Demands.{AfterRefusal, AfterSuccess, Demand1}
+use Rattle.demands.specs.Calls.{BlockLent, SearchLent, KeptShareLent, RootsLent, makeKey, serverShare, keptShare, listRoots, addShares, combining, wholeSearch, examAnswer, refusedLine, examOutput, oneBlock, Result, into, causes, rank, InOrder, result}
+use Rattle.demands.specs.Demands.{AfterRefusal, AfterSuccess, SpareUnchanged, Demand1}
 
 -- what demand 1 says of a call with the causes cs
 abbrev Kept : List Cause → Result → Type 0
@@ -38,6 +42,9 @@ Kept cs l =
     × (l .number ≢ 0 → All (AfterRefusal (l .number)) (l .areas))
     × (l .number ≢ 0 → l .kind ≡ none)
     × (l .number ≡ 0 → All AfterSuccess (l .areas))
+    × (l .number ≢ 0 → All (λ m. m .exit ≡ m .entry) (l .lists))
+    × All SpareUnchanged (l .lists)
+    × (l .number ≡ 0 → All (λ m. m .used ≤ length (m .entry)) (l .lists))
 
 -- a call that writes into one area
 one : (cs : List Cause) → InOrder cs → (out : List ℕ) (kind : Option Kind) (o : Outcome) → Due cs (o .number) × ((k : ℕ) → Due cs k → k ≡ o .number)
@@ -51,6 +58,9 @@ one cs order out kind o d refused unnamed fits = (
   λ h. let r = refused h in ((ap length (r .0), r .1), tt),
   unnamed,
   λ h. ((fits h, overlay-length (o .written) out (fits h), drop-append-seam (o .written) (drop (length (o .written)) out)), tt),
+  λ h. tt,
+  tt,
+  λ h. tt,
 )
 
 -- where nothing is written, a space is as it was
@@ -85,14 +95,14 @@ block-kept l =
 
 -- ---- the threshold's number
 
--- it stands after 1, and before every number above 2
+-- it stands after 1, and before 3 and all that follow
 after-1 : (weighted : Bool) → rank 1 < rank (thresholdNumber weighted)
 after-1 false = omega arith
 after-1 true = omega arith
 
-before : (weighted : Bool) (k : ℕ) → 2 < rank k → rank (thresholdNumber weighted) < rank k
-before false k h = h
-before true k h = h
+not-after : (weighted : Bool) (k : ℕ) → 3 < rank k → rank (thresholdNumber weighted) < rank k
+not-after false k h = omega (arith, h)
+not-after true k h = omega (arith, h)
 
 -- ---- the whole search
 
@@ -110,7 +120,7 @@ search-kept l =
     let s = l .lent in
     let d = call.search-number s (l .bytes .1 .0) (l .bytes .1 .1 .1 .0) in
     let sizes = call.area-lengths s in (
-      after-1 (s .weighted) & before (s .weighted) 3 (omega arith) & omega arith & omega arith & omega arith & omega arith & omega arith & omega arith & tt,
+      after-1 (s .weighted) & not-after (s .weighted) 3 (omega arith) & omega arith & omega arith & omega arith & omega arith & omega arith & omega arith & tt,
       d .0,
       d .1,
       λ h. let r = call.search-refused s h in ((r .0, record-left s h), ((r .1, r .2), tt)),
@@ -121,10 +131,46 @@ search-kept l =
             (w .1, sizes .0, past (recordLength s) (recordBytes s) (recordAfter s) (s .recordArea) w),
             ((v .1, sizes .1, past (listLength s) (listBytes s) (listAfter s) (s .listArea) v), tt),
           ),
+      λ h. tt,
+      tt,
+      λ h. tt,
     )
   where
     past : (n : ℕ) (bytes after area : List ℕ) → (n ≡ length bytes) × (n ≤ length area) × (after ≡ bytes ++ drop n area) → drop n after ≡ drop n area
     past n bytes after area h = rw (h .2, h .0) (drop-append-seam bytes (drop (length bytes) area))
+
+-- ---- kept nodes
+
+kept-kept : (l : KeptShareLent) → Kept (causes (keptShare l)) (result (keptShare l))
+unfolding overlay
+kept-kept l =
+    let s = l .lent in
+    let d = kept-due s (l .bytes .0) (l .bytes .1 .0) (l .bytes .1 .1 .0) in
+    let bytes = keptOutcome s .written in (
+      omega arith & omega arith & omega arith & omega arith & omega arith & omega arith & omega arith & omega arith & omega arith & tt,
+      d,
+      λ k h. due-unique (causesOf s) h d,
+      λ h. let r = untouched (s .area) (kept-refused s (λ z. h (kept-number s ∙ z))) in ((ap length (r .0), r .1), tt),
+      λ h. refl,
+      λ h. ((kept-room s h, overlay-length bytes (s .area) (kept-room s h), drop-append-seam bytes (drop (length bytes) (s .area))), tt),
+      λ h. (nodes-refused s (λ z. h (kept-number s ∙ z)), tt),
+      ((nodes-as-many s, spare-nodes s), tt),
+      λ h. (kept-ready s h .query-nodes, tt),
+    )
+
+roots-kept : (l : RootsLent) → Kept (causes (listRoots l)) (result (listRoots l))
+roots-kept l =
+    let d = roots-due (l .seeds) (length (l .nodes)) in (
+      omega arith & omega arith & tt,
+      d,
+      λ k h. due-unique (causes (listRoots l)) h d,
+      λ h. tt,
+      λ h. refl,
+      λ h. tt,
+      λ h. (roots-refused (l .server) (l .seeds) (l .nodes) h, tt),
+      ((roots-as-many (l .server) (l .seeds) (l .nodes), spare-roots (l .server) (l .seeds) (l .nodes)), tt),
+      λ h. (roots-whole (l .seeds) (length (l .nodes)) h .enough, tt),
+    )
 
 -- ---- all calls
 
@@ -138,6 +184,8 @@ demand-1 (serverShare l) =
     one (causes (serverShare l)) (omega arith & omega arith & omega arith & omega arith & omega arith & omega arith & omega arith & tt) (l .out) none _ same
     (call.share-refused (l .n) (l .expander) (l .server) (l .seeds) (l .publicShares) (l .query) (l .out)) (λ h. refl)
     (λ h. let w = call.share-written (l .n) (l .expander) (l .server) (l .seeds) (l .publicShares) (l .query) (l .out) h in rw (w .0) (w .1))
+demand-1 (keptShare l) = kept-kept l
+demand-1 (listRoots l) = roots-kept l
 demand-1 (addShares l) =
     one (causes (addShares l)) (omega arith & omega arith & tt) (l .out) none _ (call.add-number (l .share0) (l .share1) (l .out))
     (call.add-refused (l .share0) (l .share1) (l .out)) (λ h. refl)
@@ -145,7 +193,7 @@ demand-1 (addShares l) =
 demand-1 (combining l) =
     let same = call.combine-number (l .n) (l .weighted) (l .t) (l .query) (l .share0) (l .share1) (l .out) (l .bytes .0) in
     let refused = call.combine-refused (l .n) (l .weighted) (l .t) (l .query) (l .share0) (l .share1) (l .out) in
-    one (causes (combining l)) (after-1 (l .weighted) & before (l .weighted) 4 (omega arith) & omega arith & omega arith & omega arith & tt) (l .out) _ _ same (λ h. (refused h .0, refused h .1)) (λ h. refused h .2)
+    one (causes (combining l)) (after-1 (l .weighted) & not-after (l .weighted) 4 (omega arith) & omega arith & omega arith & omega arith & tt) (l .out) _ _ same (λ h. (refused h .0, refused h .1)) (λ h. refused h .2)
     (λ h. call.combine-written (l .n) (l .weighted) (l .t) (l .query) (l .share0) (l .share1) (l .out) h .2)
 demand-1 (wholeSearch l) = search-kept l
 demand-1 (examAnswer l) =

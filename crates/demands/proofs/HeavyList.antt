@@ -1,11 +1,12 @@
 -- Demand 2 holds.
 use Prim.Native.Nat.{ℕ, _*_, _≤_, _<_}
 use native.Mathlib.Omega.{arith}
-use mathlib.Core.Path.{_≡_, refl, sym, ap, _∙_}
+use mathlib.Core.Path.{_≡_, refl, sym, ap, subst, _∙_}
 use mathlib.Core.Bool.{Bool, true, false}
 use mathlib.Core.List.{List}
 use lib.ListN.{length}
 use lib.IntN.{ℤ}
+use lib.Dec.{T}
 use Rattle.places.specs.Lists.{All}
 use Rattle.places.proofs.Lists.{all-map}
 use Rattle.bits.specs.Strings.{Bits}
@@ -32,6 +33,11 @@ use Rattle.honest.proofs.Demand2.{key-made, key-correct, shares-made, shares-ad
 use Rattle.honest.proofs.Accepting.{honest-within}
 use Rattle.honest.proofs.Weighted.{list-throughout, weighted-list}
 use Rattle.honest.proofs.Loop.{passing, search-played, accepted-played}
+use Rattle.parents.specs.Parents.{ParentMissing, parentMissing}
+use Rattle.parents.proofs.Members.{missing-told}
+use Rattle.node_lists.proofs.RootsOutcome.{roots-reached}
+use Rattle.node_lists.proofs.Following.{chain, kept-follows, reached-between}
+use Rattle.kept_search.proofs.KeptLoop.{accepted-kept-played}
 use Rattle.demands.specs.Words.{expanderNumber, pointSum, served, byCalls, Servable, Ready, Seeded, withShares}
 use Rattle.demands.specs.Demands.{TheHeavyStrings, TheWeightedStrings, Demand2}
 
@@ -123,6 +129,16 @@ accepts s xs ws e honest r =
     honest-accepted s xs ws honest (r .servable .some-bits) (r .servable .not-longer) (r .some-threshold) (r .not-higher)
     (named-known s e (r .servable .named)) (r .servable .few) (r .record-space) (r .list-space)
 
+-- ---- kept nodes
+
+-- where no parent is missing, the test says so
+none-missing : (last query : List ℕ) → (ParentMissing last query → ⊥) → parentMissing last query ≡ false
+none-missing last query there = go (parentMissing last query) refl
+  where
+    go : (b : Bool) → parentMissing last query ≡ b → b ≡ false
+    go false e = refl
+    go true e = absurd (there (missing-told last query (subst T (sym e) tt)))
+
 pub demand-2 : Demand2
 demand-2 = (
   λ k b room fits.
@@ -130,12 +146,17 @@ demand-2 = (
       (k .seed0) (k .seed1) (b .sized0) (b .sized1) room fits,
   λ k b q some fits. key-correct (k .expander) (k .weight) (k .string) (k .seed0) (k .seed1) (b .sized0) (b .sized1) q (omega arith) fits,
   share-served,
+  λ s last query nodes area r h. sym (chain s last query nodes area r h),
+  λ s last query nodes area r enough there. kept-follows s last query nodes area r enough (none-missing last query there),
+  roots-reached,
+  λ s last other query nodes area r h. reached-between s other query nodes area r h,
   list-heavy,
   λ s xs ws honest. honest .unweighted,
   list-weighted,
   λ s xs ws honest ones passes. calls-heavy s xs ws honest passes ones,
   calls-weighted,
   accepted-played,
+  accepted-kept-played,
   has-shares,
   accepts,
 )

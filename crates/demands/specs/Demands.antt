@@ -17,15 +17,21 @@ use Rattle.weights.specs.Weights.{EveryOne, heldWeight}
 use Rattle.calls.specs.Causes.{Due}
 use Rattle.calls.specs.Outcome.{accepted}
 use Rattle.expander.specs.declared.Expander.{Expander}
+use Rattle.point.specs.Node.{Node}
 use Rattle.point.specs.PublicShare.{publicShareLength}
 use Rattle.query.specs.Query.{packs, IsQuery, prefixCount, prefixesOf, children}
 use Rattle.tree.specs.SearchRule.{start, totals, heading}
 use Rattle.tree.specs.Cut.{cut, cuts, times, Rearranged}
-use Rattle.search.specs.Search.{Lent, countedNumber, thresholdOf, total}
+use Rattle.parents.specs.Parents.{ParentMissing}
+use Rattle.node_lists.specs.NodeList.{shareCount}
+use Rattle.node_lists.specs.Roots.{rootsNumber, rootsAfter}
+use Rattle.node_lists.specs.ShareKept.{keptOutcome, nodesAfter}
+use Rattle.node_lists.specs.Sessions.{Session, call, Reached}
+use Rattle.search.specs.Search.{Lent, reports, countedNumber, thresholdOf, total}
 use Rattle.honest.specs.Honest.{Accepted, recordRead, listRead, Honest, countedStrings, countedWeights, HeavyThroughout}
 use Rattle.honest.specs.Loop.{Passes, firstQuery, keptAt}
-use Rattle.demands.specs.Calls.{Call, causes, InOrder, Area, result}
-use Rattle.demands.specs.Words.{Key, InBounds, made, groupWeight, pointKey, pointShare, pointSum, served, byCalls, Servable, Ready, Seeded, withShares}
+use Rattle.demands.specs.Calls.{Call, causes, InOrder, Area, Nodes, result}
+use Rattle.demands.specs.Words.{Key, InBounds, made, groupWeight, pointKey, pointShare, pointSum, served, walked, byCalls, byKeptCalls, Servable, Ready, Seeded, withShares}
 
 -- ==== Demand 1
 
@@ -39,6 +45,10 @@ AfterSuccess a =
     (a .returned ≤ length (a .entry)) × (length (a .exit) ≡ length (a .entry))
     × (drop (a .returned) (a .exit) ≡ drop (a .returned) (a .entry))
 
+-- a list of nodes keeps its size, and its spare nodes are as they were
+abbrev pub SpareUnchanged : Nodes → Type 0
+SpareUnchanged l = (length (l .exit) ≡ length (l .entry)) × (drop (l .used) (l .exit) ≡ drop (l .used) (l .entry))
+
 -- 'The program as a whole, library and exam program, ends on every input': that is the checker's claim for each function that it proves.
 abbrev pub Demand1 : Type 0
 Demand1 =
@@ -51,6 +61,10 @@ Demand1 =
     × (result c .number ≢ 0 → result c .kind ≡ none)
     -- Document 01: 'Success is 0 with the lengths written; bytes past them are unchanged.'
     × (result c .number ≡ 0 → All AfterSuccess (result c .areas))
+    -- Document 02, [2]: 'Refusals change no node, and spare nodes, those past reports × prefixes of the new query, are never changed.'
+    × (result c .number ≢ 0 → All (λ l. l .exit ≡ l .entry) (result c .lists))
+    × All SpareUnchanged (result c .lists)
+    × (result c .number ≡ 0 → All (λ l. l .used ≤ length (l .entry)) (result c .lists))
 
 -- ==== Demand 2
 
@@ -82,6 +96,18 @@ Demand2 =
     × ((s : Lent) (xs : List Bits) (ws : List ℤ) (e : Expander) → Honest s xs ws → Servable s xs e
     → (b : Bool) (query : List ℕ) → IsQuery (s .n) query → (room : ℕ) → 8 * prefixCount query ≤ room
     → served s b query room ≡ accepted (totals (pointSum s xs ws e b) (prefixesOf query)))
+    -- Document 02, [2]: 'Provided reports, expander and server stay the same throughout, the list began at the roots, and each later call gets it as the
+    -- accepted call before left it, with that call's new query as its last, shares equal those of the walk from the root.'
+    × ((s : Session) (last query : List ℕ) (nodes : List Node) (area : List ℕ) → Reached s last nodes
+    → keptOutcome (call s last query nodes area) .number ≡ 0 → keptOutcome (call s last query nodes area) ≡ walked s query (length area))
+    -- Such calls are accepted where `share` is: nodes that are enough and parents in the last query are all that is asked besides. The list that
+    -- `write_roots` leaves is one at the roots; a refused call leaves the list as it may be given to the next.
+    × ((s : Session) (last query : List ℕ) (nodes : List Node) (area : List ℕ) → Reached s last nodes
+    → shareCount (s .n) (s .shares) * length (prefixesOf query) ≤ length nodes → (ParentMissing last query → ⊥)
+    → keptOutcome (call s last query nodes area) ≡ walked s query (length area))
+    × ((s : Session) (nodes : List Node) → rootsNumber (s .seeds) (length nodes) ≡ 0 → Reached s [] (rootsAfter (s .server) (s .seeds) nodes))
+    × ((s : Session) (last other query : List ℕ) (nodes : List Node) (area : List ℕ) → Reached s last nodes
+    → keptOutcome (call s other query nodes area) .number ≢ 0 → Reached s last (nodesAfter (call s other query nodes area)))
     -- 'For honestly made keys with any seeds, the list of an accepted search holds every string of the search's full length that at least t
     -- installations hold and no other, once each, ascending.' So it is where every weight is one.
     × ((s : Lent) (xs : List Bits) (ws : List ℤ) → Honest s xs ws → EveryOne ws → Accepted s → TheHeavyStrings s xs (listRead s))
@@ -94,6 +120,10 @@ Demand2 =
     × ((s : Lent) (xs : List Bits) (ws : List ℤ) → Honest s xs ws → Passes s → TheWeightedStrings s xs ws (byCalls s .listed))
     -- and for any reports, honest or not, what they leave is the record and the list of an accepted search.
     × ((s : Lent) → Accepted s → (recordRead s ≡ heading (countedNumber s) ++ byCalls s .recorded) × (listRead s ≡ byCalls s .listed))
+    -- So do they where both servers keep their nodes, with lists that are long enough for every query.
+    × ((s : Lent) → Accepted s → (nodes : Bool → List Node)
+    → ((b : Bool) (k : ℕ) → k < s .n → reports s * length (children (keptAt s k)) ≤ length (nodes b))
+    → (recordRead s ≡ heading (countedNumber s) ++ byKeptCalls s nodes .recorded) × (listRead s ≡ byKeptCalls s nodes .listed))
     -- There are such searches: any strings, weights and seeds have public shares with which they are honest, and an honest search that is ready is
     -- accepted.
     × ((s : Lent) (xs : List Bits) (ws : List ℤ) (e : Expander) → Servable s xs e → Seeded s xs ws → (shares : List ℕ) × Honest (withShares s shares) xs ws)

@@ -12,6 +12,7 @@ use Rattle.bits.specs.Packing.{pack}
 use Rattle.calls.specs.Outcome.{Outcome}
 use Rattle.expander.specs.declared.Expander.{Expander}
 use Rattle.expander.specs.declared.Expander.the-variants.{Aes, Classroom}
+use Rattle.point.specs.Node.{Node}
 use Rattle.point.specs.Correction.{Correction}
 use Rattle.point.specs.Keys.{keyCorrection}
 use Rattle.point.specs.Evaluation.{bitOf, shareAt}
@@ -25,9 +26,11 @@ use Rattle.signed.specs.SignedReading.{embed}
 use Rattle.weights.specs.Weights.{IsWeight, EveryOne}
 use Rattle.report_sums.specs.Reports.{seedAt, allCount, sumWhere}
 use Rattle.idpf.specs.Share.{shareOutcome}
+use Rattle.node_lists.specs.Sessions.{Session}
 use Rattle.search.specs.Search.{Lent, lent, thresholdOf}
 use Rattle.honest.specs.Honest.{countedStrings}
 use Rattle.honest.specs.Loop.{firstQuery, Played, played}
+use Rattle.kept_search.specs.KeptLoop.{begun, keptPlayed}
 
 -- ---- a key
 
@@ -88,6 +91,14 @@ served s b query room = shareOutcome (s .n) (s .expander) b (cond b (s .seeds1) 
 -- what is left when both servers and combining are called in turn, from the first query on, for at most n rounds
 abbrev pub byCalls : Lent → Played
 byCalls s = played s (s .n) firstQuery
+
+-- the same where server b keeps its nodes in the list `nodes b`, begun at the roots
+abbrev pub byKeptCalls : Lent → (Bool → List Node) → Played
+byKeptCalls s nodes = keptPlayed s (s .n) (begun s nodes) firstQuery
+
+-- what the server of a session answers to a query in `room` bytes of space by the walk from the root
+abbrev pub walked : Session → List ℕ → ℕ → Outcome
+walked s query room = shareOutcome (s .n) (s .expander) (s .server) (s .seeds) (s .shares) query room
 
 -- ---- when an honest search is ready
 

@@ -1,20 +1,19 @@
 -- The outcome of `share_kept`: a refusal changes nothing, and what follows where no cause applies.
-use Prim.Native.Nat.{ℕ, _+_, _-_, _*_, _/_, _%_, _≤_, _<_}
+use Prim.Native.Nat.{ℕ, _*_, _/_, _%_, _≤_, _<_}
 use native.Mathlib.Omega.{arith}
 use native.Mathlib.Nat.{mul-comm, div-add-mod'}
 use mathlib.Core.Path.{_≡_, refl, sym, ap, _∙_}
 use mathlib.Core.Bool.{Bool, true, false, not, _&&_, true≢false}
-use mathlib.Core.List.{List, [], _++_}
+use mathlib.Core.List.{List, []}
 use mathlib.Core.Logic.{_≢_}
 use borrow.Author.Tests.{eqb-true, eqb-false, eq-eqb, ne-eqb, ltb-false, not-false}
-use lib.ListN.{length, getD, drop}
-use lib.Seq.{getD-append-add, getD-drop}
+use lib.ListN.{length, drop}
 use lib.Dec.{eqb, ltb}
 use Rattle.places.specs.Places.{overlay}
 use Rattle.places.proofs.Lists.{and-left, and-right}
 use Rattle.places.proofs.Places.{overlay-nil, overlay-length}
 use Rattle.calls.specs.Bounds.{mostBits, mostReports}
-use Rattle.calls.specs.Outcome.{accepted}
+use Rattle.calls.specs.Outcome.{Outcome, accepted}
 use Rattle.calls.proofs.Decisions.{neither, bounds}
 use Rattle.calls.proofs.Judged.{Clear, judged-due, judged-refused, judged-accepted, judged-clear}
 use Rattle.expander.specs.Expander.{isExpander, choiceOf, under}
@@ -28,10 +27,13 @@ use Rattle.point.specs.PublicShare.{publicShareLength, payloadsBelow, spareBits
 use Rattle.point.proofs.Joined.{every-at}
 use Rattle.query.specs.Query.{prefixCount, prefixesOf, isQuery}
 use Rattle.report_sums.specs.Reports.{publicShareAt}
+use Rattle.tree.proofs.Lengths.{totals-length}
 use Rattle.parents.specs.Parents.{isLast, lastPrefixes, parentMissing}
-use Rattle.node_lists.specs.NodeList.{shareCount, noNode, newNodes, keptShare}
+use Rattle.parents.proofs.Last.{prefixes-length}
+use Rattle.node_lists.specs.NodeList.{shareCount, newNodes, keptShare}
 use Rattle.node_lists.specs.ShareKept.{KeptLent, keptCauses, causesOf, keptNumber, keptOutcome, nodesAfter}
 use Rattle.node_lists.proofs.ByReport.{by-report-length}
+use Rattle.node_lists.proofs.Overlaid.{overlay-spare}
 
 -- ---- the number, and a refusal
 
@@ -136,16 +138,6 @@ pub new-nodes-length : (n : ℕ) (shares last : List ℕ) (nodes : List Node) (x
 unfolding newNodes
 new-nodes-length n shares last nodes x query = by-report-length _ (prefixesOf query) (shareCount n shares)
 
--- a place past the new elements of an overlaid list
-overlay-past : (vs l : List Node) (i : ℕ) → length vs ≤ i → getD (overlay vs l) i noNode ≡ getD l i noNode
-unfolding overlay
-overlay-past vs l i h =
-    let e : length vs + (i - length vs) ≡ i = omega arith in
-    ap (λ (j : ℕ). getD (vs ++ drop (length vs) l) j noNode) (sym e)
-    ∙ getD-append-add vs (drop (length vs) l) (i - length vs) noNode
-    ∙ getD-drop (length vs) l (i - length vs) noNode
-    ∙ ap (λ (j : ℕ). getD l j noNode) e
-
 -- as many nodes at exit as at entry
 pub nodes-as-many : (s : KeptLent) → length (nodesAfter s) ≡ length (s .nodes)
 nodes-as-many s = go (eqb (keptOutcome s .number) 0) refl
@@ -159,14 +151,27 @@ nodes-as-many s = go (eqb (keptOutcome s .number) 0) refl
     go false e = ap length (nodes-refused s (λ z. eqb-false _ 0 e (kept-number s ∙ z)))
 
 -- spare nodes, those past reports × prefixes of the new query, are never changed
-pub spare-nodes : (s : KeptLent) (i : ℕ) → shareCount (s .n) (s .shares) * length (prefixesOf (s .query)) ≤ i
-    → getD (nodesAfter s) i noNode ≡ getD (s .nodes) i noNode
-spare-nodes s i l = go (eqb (keptOutcome s .number) 0) refl
+pub spare-nodes : (s : KeptLent) → let used = shareCount (s .n) (s .shares) * length (prefixesOf (s .query)) in drop used (nodesAfter s) ≡ drop used (s .nodes)
+spare-nodes s = go (eqb (keptOutcome s .number) 0) refl
   where
-    go : (b : Bool) → eqb (keptOutcome s .number) 0 ≡ b → getD (nodesAfter s) i noNode ≡ getD (s .nodes) i noNode
+    used : ℕ
+    used = shareCount (s .n) (s .shares) * length (prefixesOf (s .query))
+
+    go : (b : Bool) → eqb (keptOutcome s .number) 0 ≡ b → drop used (nodesAfter s) ≡ drop used (s .nodes)
     go true e =
         let h : keptOutcome s .number ≡ 0 = eqb-true _ 0 e in
         let r = kept-ready s h in
-        ap (λ (l : List Node). getD l i noNode) (nodes-accepted s (r .expander) (r .chosen) h)
-        ∙ overlay-past _ (s .nodes) i (omega (arith, new-nodes-length (s .n) (s .shares) (s .last) (s .nodes) (r .expander) (s .query)))
-    go false e = ap (λ (l : List Node). getD l i noNode) (nodes-refused s (λ z. eqb-false _ 0 e (kept-number s ∙ z)))
+        ap (drop used) (nodes-accepted s (r .expander) (r .chosen) h)
+        ∙ overlay-spare (newNodes (s .n) (s .shares) (s .last) (s .nodes) (r .expander) (s .query)) (s .nodes) used
+        (new-nodes-length (s .n) (s .shares) (s .last) (s .nodes) (r .expander) (s .query))
+    go false e = ap (drop used) (nodes-refused s (λ z. eqb-false _ 0 e (kept-number s ∙ z)))
+
+-- the share takes 8 bytes a prefix, and fits
+pub kept-room : (s : KeptLent) → keptOutcome s .number ≡ 0 → length (keptOutcome s .written) ≤ length (s .area)
+unfolding keptShare
+kept-room s h =
+    let r = kept-ready s h in
+    let size : length (keptOutcome s .written) ≡ 8 * prefixCount (s .query) =
+    ap (λ (o : Outcome). length (o .written)) (kept-accepted s (r .expander) (r .chosen) h) ∙ totals-length _ (prefixesOf (s .query))
+    ∙ ap (λ (m : ℕ). 8 * m) (prefixes-length (s .query)) in
+    omega (arith, size, r .fits)

@@ -5,7 +5,7 @@ use native.Mathlib.Decide.{decLt}
 use mathlib.Core.Path.{_≡_, refl, sym, ap, _∙_}
 use mathlib.Core.List.{List, [], _∷_, map}
 use lib.ListN.{length, getD, drop, length-map, List·getD-append, List·getD-map}
-use lib.Seq.{getD-append-add, getD-drop, ext-getD}
+use lib.Seq.{drop-at, getD-append-add, getD-drop, ext-getD}
 use Rattle.places.specs.Places.{overlay}
 use Rattle.places.proofs.Places.{overlay-length}
 
@@ -15,6 +15,11 @@ module _ {A : Type 0} where
   getD-any [] i d e h = absurd (omega arith)
   getD-any (x ∷ l) zero d e h = refl
   getD-any (x ∷ l) (suc i) d e h = getD-any l i d e (omega arith)
+
+  -- what stands past the new elements is as it was
+  pub overlay-spare : (vs l : List A) (n : ℕ) → length vs ≡ n → drop n (overlay vs l) ≡ drop n l
+  unfolding overlay
+  overlay-spare vs l n h = drop-at vs (drop (length vs) l) n h ∙ ap (λ (m : ℕ). drop m l) h
 
   module _ (vs l : List A) (d : A) where
     pub overlay-below : (i : ℕ) → i < length vs → getD (overlay vs l) i d ≡ getD vs i d

@@ -6,7 +6,7 @@ use mathlib.Core.Bool.{Bool, true, false, not}
 use mathlib.Core.List.{List, []}
 use mathlib.Core.Logic.{_≢_}
 use borrow.Author.Tests.{eqb-true, eqb-false, eq-eqb, ne-eqb, le-ltb, ltb-false, not-false}
-use lib.ListN.{length}
+use lib.ListN.{length, drop}
 use lib.Dec.{eqb}
 use Rattle.places.specs.Places.{overlay}
 use Rattle.places.proofs.Places.{overlay-nil, overlay-length}
@@ -16,6 +16,7 @@ use Rattle.point.specs.Node.{Node}
 use Rattle.tree.specs.SearchRule.{start}
 use Rattle.node_lists.specs.Roots.{roots, rootsCauses, rootsNumber, rootsAfter}
 use Rattle.node_lists.specs.Sessions.{Session, Reached, at-roots}
+use Rattle.node_lists.proofs.Overlaid.{overlay-spare}
 use Rattle.node_lists.proofs.ByReport.{by-report-length}
 
 -- The seeds are whole and not too many, and the nodes are enough.
@@ -61,6 +62,14 @@ module _ (b : Bool) (seeds : List ℕ) where
             let h : rootsNumber seeds (length nodes) ≡ 0 = eqb-true _ 0 e in
             ap length (roots-accepted h) ∙ overlay-length (roots b seeds) nodes (omega (arith, roots-one-each, roots-whole seeds (length nodes) h .enough))
         go false e = ap length (roots-refused (eqb-false _ 0 e))
+
+    -- those past one for each seed are never changed
+    pub spare-roots : drop (length seeds / 16) (rootsAfter b seeds nodes) ≡ drop (length seeds / 16) nodes
+    spare-roots = go (eqb (rootsNumber seeds (length nodes)) 0) refl
+      where
+        go : (r : Bool) → eqb (rootsNumber seeds (length nodes)) 0 ≡ r → drop (length seeds / 16) (rootsAfter b seeds nodes) ≡ drop (length seeds / 16) nodes
+        go true e = ap (drop (length seeds / 16)) (roots-accepted (eqb-true _ 0 e)) ∙ overlay-spare (roots b seeds) nodes (length seeds / 16) roots-one-each
+        go false e = ap (drop (length seeds / 16)) (roots-refused (eqb-false _ 0 e))
 
 -- a list that the call has begun may be given to the first call of a session
 pub roots-reached : (s : Session) (nodes : List Node) → rootsNumber (s .seeds) (length nodes) ≡ 0 → Reached s [] (rootsAfter (s .server) (s .seeds) nodes)

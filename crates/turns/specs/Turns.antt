@@ -1,7 +1,7 @@
 -- The turns by which a list of nodes goes one level down in its own place: upwards over the new nodes, those that are read from further up; then
 -- downwards, the others.
 use Prim.Native.Nat.{ℕ, zero, suc, _+_, _-_, _*_, _/_, _%_}
-use mathlib.Core.Bool.{Bool, true, false, cond, Bool·beq}
+use mathlib.Core.Bool.{Bool, false, cond, Bool·beq}
 use mathlib.Core.List.{List}
 use lib.ListN.{length, getD, set, replicate}
 use lib.Dec.{eqb, ltb}
@@ -10,7 +10,6 @@ use Rattle.numbers.specs.Numbers.{little, fromLittle}
 use Rattle.bits.specs.Packing.{bitsOf}
 use Rattle.group.specs.Modular.{field}
 use Rattle.expander.specs.Expander.{choiceOf}
-use Rattle.expander.specs.declared.Expander.{Expander}
 use Rattle.expander.specs.declared.Expander.the-variants.{Aes}
 use Rattle.expander.specs.declared.Choice.{Choice}
 use Rattle.expander.specs.declared.Choice.the-variants.{Known, Unknown}

@@ -1,7 +1,7 @@
 -- `turns::clear` meets its contract. The loop's invariant: the bytes passed are zero, and the others as they were. The measure is what is left.
 use Prim.Native.Nat.{ℕ, _-_, _≤_}
 use native.Mathlib.Omega.{arith}
-use mathlib.Core.Path.{_≡_, refl, sym, ap, _∙_}
+use mathlib.Core.Path.{_≡_, refl}
 use mathlib.Core.List.{_++_}
 use borrow.Author.Fill.{fill-none, fill-more}
 use lib.ListN.{length, drop, replicate, length-set, length-replicate}

@@ -1,4 +1,4 @@
--- `turns::place_for` meets its contract.
+-- `turns::place_for` meets its contract. The new nodes are fewer than 2^48, and the parent's node is among the last query's or the one after them.
 use borrow.Author.Needs.{needs}
 use native.Mathlib.Omega.{arith}
 use Prim.Native.Nat.{_+_, _*_, _/_, _<_}
@@ -40,7 +40,7 @@ rem-prefix c =
     let t = c .before .before .before .before .before .args .task in
     count-some (t .reports) (t .after) (c .before .if2 .left)
 
--- the parent's node is one of the last query's, or the one after them
+-- the place of the parent's node is small
 from : (c : tie.After-parent-place)
     → c .before .before .target-of .result / c .before .before .before .before .before .before .before .args .task .after
     * c .before .before .before .before .before .before .before .args .task .before + c .parent-place .result < 562949953421312
@@ -86,4 +86,5 @@ returns-4 c =
 pub place-for-spec : {M : Type 1} → statement M
 place-for-spec =
     tie.close
-    (tie.spec (λ c κs. search needs) returns (λ c. search needs) (λ c. search needs) (λ c. search needs) mul-count (λ c κs. search needs) returns-2 target-of-requires div-report rem-prefix (λ c κs. search needs) (λ c. search needs) (λ c κs. search needs) mul-from add-from returns-3 returns-4)
+    (tie.spec (λ c κs. search needs) returns (λ c. search needs) (λ c. search needs) (λ c. search needs) mul-count (λ c κs. search needs)
+    returns-2 target-of-requires div-report rem-prefix (λ c κs. search needs) (λ c. search needs) (λ c κs. search needs) mul-from add-from returns-3 returns-4)

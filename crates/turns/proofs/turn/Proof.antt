@@ -33,11 +33,12 @@ returns-2 c =
           (child .ensures) (b .bit-at .result) (b .bit-at .ensures) (down .result .node) (down .ensures .0),
       e .before .before .after .ensures,
       turned-sums (a .task) (a .shares .now) (a .query .now) (a .at) (a .m) due (share .result .now) (share .ensures) (child .result .now)
-          (child .ensures) (b .bit-at .result) (b .bit-at .ensures) (down .result .share) (down .ensures .1) (a .out .now) (c .before .before .add-at .last .0)
-          (c .before .before .add-at .ensures),
+          (child .ensures) (b .bit-at .result) (b .bit-at .ensures) (down .result .share) (down .ensures .1) (a .out .now)
+          (c .before .before .add-at .last .0) (c .before .before .add-at .ensures),
     )
 
 pub turn-spec : {M : Type 1} → statement M
 turn-spec =
     tie.close
-    (tie.spec (λ c κs. search needs) returns (λ c κs. search needs) (λ c κs. search needs) cast-bit-at (λ c κs. search needs) (λ c κs. search needs) (λ c κs. search needs) (λ c. search needs) returns-2)
+    (tie.spec (λ c κs. search needs) returns (λ c κs. search needs) (λ c κs. search needs) cast-bit-at (λ c κs. search needs)
+    (λ c κs. search needs) (λ c κs. search needs) (λ c. search needs) returns-2)
