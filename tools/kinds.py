@@ -12,16 +12,25 @@ PAGE = "docs/CONTRACTS.md"
 TITLE = "## Every edit, by what it changes\n"
 
 
+def in_clause(path, old):
+    """Whether a text of a file in src/ stands in a clause, or has an end of one in it."""
+    text = open(path, encoding="utf-8").read()
+    before = text[:text.find(old)] if old in text else ""
+    return bool(re.search(r"⌜|⌝", old)) or before.rfind("⌝") < before.rfind("⌜")
+
+
 def kinds(path):
     found = set()
     file = ""
     for line in open(path):
         if line.startswith("file: "):
             file = line[6:].strip()
+        elif line.startswith("old: ghost use "):  # an import that a clause's new text needs
+            continue
         elif line.startswith("old: "):
             if file.startswith("specs/"):
                 found.add("definition")
-            elif re.search(r"⌜|⌝", line):
+            elif in_clause(os.path.join(path.split("/must-fail/")[0], file), line[5:].rstrip("\n")):
                 found.add("contract")
             else:
                 found.add("code")
