@@ -42,7 +42,7 @@
 //      10 | The exam text is not as laid out below; only tally_exam returns it, and tally_respond writes it as text.
 //      11 | What is to be written would not fit the lent space, or a next query would pass 131,070 prefixes.
 //      12 | The threshold t is not from 1 to 2,147,483,647, and the call is weighted.
-//      13 | There are fewer nodes than reports x prefixes of the last query or of the new one, or at the roots than seeds.
+//      13 | There are fewer nodes than reports x prefixes of the last query or of the new one, or, in tally_roots, than seeds.
 //      14 | The parent of a prefix, the prefix without its last bit, was not in the last query.
 //
 // How totals are read:
@@ -316,8 +316,8 @@ uint64_t tally_roots(bool server,
 // no bytes for the last query; and each later call is lent the list as the accepted call before left it, with that call's query as the last.
 // The call cannot see whether that is so: other nodes give another share, and no refusal.
 // Reads: the public shares, TALLY_PUBLIC_SHARE_LENGTH(n) bytes a report; the last query, or no bytes where the list is at the roots; the query,
-// whose prefixes are children of prefixes of the last one, as those of every next query of tally_combine are; reports x prefixes of the last query
-// nodes.
+// whose prefixes are children of prefixes of the last one, as those of every next query of tally_combine are; of the list, the first
+// reports x prefixes of the last query. Between two calls the list may be moved, made longer or cut, as long as these stay.
 // Writes: TALLY_SHARE_LENGTH(count) bytes of share, that is 8 for each prefix of the query; and reports x count nodes, while those past them are
 // unchanged. The list needs TALLY_NODES_COUNT(reports, prefixes) nodes for the last query and for the new one, whichever has more.
 // Refuses with 1; 3; 4, public shares are not whole; 5; 6; 7; 9, also where the last query is neither no bytes nor a query; 13; 14; 11. Numbers 6

@@ -80,9 +80,11 @@ static void report(size_t i, server *zero, server *one)
     must_pass("tally_key", reply.number);
 }
 
-// How many prefixes a query has.
-static size_t prefixes(const uint8_t *query)
+// How many prefixes a query has; none where it is too short to say so.
+static size_t prefixes(const uint8_t *query, size_t query_length)
 {
+    if (query_length < 6)
+        return 0;
     return (size_t)query[2] << 24 | (size_t)query[3] << 16 | (size_t)query[4] << 8 | query[5];
 }
 
@@ -107,7 +109,7 @@ static void begin(server *by)
 // A server's reply to a query, from the nodes that it kept; where it accepts, the query is its last one from then on.
 static tally_reply answer(server *by, const uint8_t *query, size_t query_length, uint8_t *share, size_t space)
 {
-    make_room(by, prefixes(query));
+    make_room(by, prefixes(query, query_length));
     tally_reply reply = tally_share_kept(N, TALLY_EXPANDER_AES, by->one, public_shares, sizeof public_shares, by->last_query,
                                          by->last_query_length, query, query_length, by->nodes, by->nodes_count, share, space);
     if (reply.number == TALLY_OK) {
@@ -136,7 +138,7 @@ static uint64_t total(const uint8_t *totals, size_t i)
 // Puts a query and its totals at the end of the record, and prints one line for each prefix.
 static void note_level(collected *into, const uint8_t *query, size_t query_length, const uint8_t *totals)
 {
-    const size_t bits = ((size_t)query[0] << 8 | query[1]) + 1, count = prefixes(query);
+    const size_t bits = ((size_t)query[0] << 8 | query[1]) + 1, count = prefixes(query, query_length);
     memcpy(into->record + into->record_length, query, query_length);
     into->record_length += query_length;
     memcpy(into->record + into->record_length, totals, TALLY_SHARE_LENGTH(count));

@@ -20,7 +20,7 @@ pub fn last_count(last: &[u8]) -> usize
 }
 
 // How many bits each of them has: none where no bytes are lent.
-pub fn last_length(last: &[u8]) -> usize
+fn last_length(last: &[u8]) -> usize
     ensures { λ r. ⌜ (r ≡ lastLength (now (last .entry))) × (r ≤ 65536) ⌝ }
 {
     if last.len() < 1 {
