@@ -36,7 +36,7 @@ goes-on n k ps qs e = go (eqb k n) refl ps e
     go false f [] e = let z : _≡_ {A = ℕ} 0 1 = cc in absurd (omega arith)
     go false f (p ∷ ps) e = record { not-end = eqb-false k n f; some = omega arith; both = cc }
 
-module _ (n : ℕ) (weighted : Bool) (t : ℕ) (q s0 s1 : List ℕ) (room : ℕ) (byte : (i : ℕ) → getD q i 0 < 256) (qs : List Bits)
+module _ (n : ℕ) (weighted : Bool) (t : ℕ) (q s0 s1 : List ℕ) (room : ℕ) (qs : List Bits)
     (e : combineAnswer n weighted t q s0 s1 ≡ next qs) (z : combineOutcome n weighted t q s0 s1 room .number ≡ 0) where
   no-causes : Clear (combineCauses n weighted t q s0 s1 room)
   unfolding combineOutcome
@@ -44,12 +44,12 @@ module _ (n : ℕ) (weighted : Bool) (t : ℕ) (q s0 s1 : List ℕ) (room : ℕ)
       judged-clear (combineCauses n weighted t q s0 s1 room) (combineBytes n weighted t q s0 s1)
       (omega arith, (threshold-numbered weighted, (omega arith, (omega arith, (omega arith, (omega arith, tt)))))) z
 
-  all-well : Ready n weighted t q s0 s1
+  pub all-well : Ready n weighted t q s0 s1
   all-well =
       let c = no-causes in
       clear-ready n weighted t q s0 s1 (c .0, (c .1 .0, (c .1 .1 .0, (c .1 .1 .1 .0, (c .1 .1 .1 .1 .0, tt)))))
 
-  not-more : length qs ≤ limit
+  pub not-more : length qs ≤ limit
   not-more =
       let c = neither (ltb room (length (combineBytes n weighted t q s0 s1))) (passesLimit (combineAnswer n weighted t q s0 s1)) (no-causes .1 .1 .1 .1 .1 .0) in
       ltb-false limit (length qs) (rw e at (c .1))
@@ -61,8 +61,8 @@ module _ (n : ℕ) (weighted : Bool) (t : ℕ) (q s0 s1 : List ℕ) (room : ℕ)
       ap (λ o. o .written) (judged-accepted (combineCauses n weighted t q s0 s1 room) (combineBytes n weighted t q s0 s1) no-causes) ∙ ap (answerBytes (prefixLength q)) e
 
   -- and passes 9.
-  pub next-passes : IsQuery n (combineOutcome n weighted t q s0 s1 room .written)
-  next-passes =
+  pub next-passes : ((i : ℕ) → getD q i 0 < 256) → IsQuery n (combineOutcome n weighted t q s0 s1 room .written)
+  next-passes byte =
       let ks = keptPrefixes weighted t q s0 s1 in
       let g = goes-on n (prefixLength q) ks qs e in
       let r = query-ready n q (all-well .a-query) in

@@ -35,9 +35,10 @@ use Rattle.honest.proofs.Weighted.{list-throughout, weighted-list}
 use Rattle.honest.proofs.Loop.{passing, search-played, accepted-played}
 use Rattle.parents.specs.Parents.{ParentMissing, parentMissing}
 use Rattle.parents.proofs.Members.{missing-told}
-use Rattle.node_lists.proofs.RootsOutcome.{roots-reached}
+use Rattle.node_lists.proofs.RootsOutcome.{roots-reached, begun-between}
+use Rattle.node_lists.proofs.Chain.{reached-nodes}
 use Rattle.node_lists.proofs.Following.{chain, kept-follows, reached-between}
-use Rattle.kept_search.proofs.KeptLoop.{accepted-kept-played}
+use Rattle.kept_search.proofs.KeptLoop.{kept-played}
 use Rattle.demands.specs.Words.{expanderNumber, pointSum, served, byCalls, Servable, Ready, Seeded, withShares}
 use Rattle.demands.specs.Demands.{TheHeavyStrings, TheWeightedStrings, Demand2}
 
@@ -146,17 +147,19 @@ demand-2 = (
       (k .seed0) (k .seed1) (b .sized0) (b .sized1) room fits,
   λ k b q some fits. key-correct (k .expander) (k .weight) (k .string) (k .seed0) (k .seed1) (b .sized0) (b .sized1) q (omega arith) fits,
   share-served,
+  reached-nodes,
   λ s last query nodes area r h. sym (chain s last query nodes area r h),
   λ s last query nodes area r enough there. kept-follows s last query nodes area r enough (none-missing last query there),
   roots-reached,
-  λ s last other query nodes area r h. reached-between s other query nodes area r h,
+  reached-between,
+  begun-between,
   list-heavy,
   λ s xs ws honest. honest .unweighted,
   list-weighted,
   λ s xs ws honest ones passes. calls-heavy s xs ws honest passes ones,
   calls-weighted,
   accepted-played,
-  accepted-kept-played,
+  kept-played,
   has-shares,
   accepts,
 )

@@ -6,7 +6,7 @@ use mathlib.Core.Bool.{Bool, true, false, cond, _&&_}
 use mathlib.Core.List.{List, [], _∷_, _++_}
 use mathlib.Core.Logic.{_≢_, _↔_}
 use mathlib.Core.Option.{none}
-use lib.ListN.{length, drop, replicate}
+use lib.ListN.{length, take, drop, replicate}
 use lib.Dec.{eqb}
 use lib.IntN.{ℤ, _+ℤ_}
 use Rattle.places.specs.Lists.{_∈_, All}
@@ -16,22 +16,24 @@ use Rattle.signed.specs.SignedReading.{signedIn}
 use Rattle.weights.specs.Weights.{EveryOne, heldWeight}
 use Rattle.calls.specs.Causes.{Due}
 use Rattle.calls.specs.Outcome.{accepted}
+use Rattle.expander.specs.Expander.{choiceOf}
 use Rattle.expander.specs.declared.Expander.{Expander}
+use Rattle.expander.specs.declared.Choice.the-variants.{Known}
 use Rattle.point.specs.Node.{Node}
 use Rattle.point.specs.PublicShare.{publicShareLength}
 use Rattle.query.specs.Query.{packs, IsQuery, prefixCount, prefixesOf, children}
 use Rattle.tree.specs.SearchRule.{start, totals, heading}
 use Rattle.tree.specs.Cut.{cut, cuts, times, Rearranged}
-use Rattle.parents.specs.Parents.{ParentMissing}
-use Rattle.node_lists.specs.NodeList.{shareCount}
+use Rattle.parents.specs.Parents.{lastPrefixes, ParentMissing}
+use Rattle.node_lists.specs.NodeList.{shareCount, reportByReport}
 use Rattle.node_lists.specs.Roots.{rootsNumber, rootsAfter}
-use Rattle.node_lists.specs.ShareKept.{keptOutcome, nodesAfter}
-use Rattle.node_lists.specs.Sessions.{Session, call, Reached}
-use Rattle.search.specs.Search.{Lent, reports, countedNumber, thresholdOf, total}
+use Rattle.node_lists.specs.ShareKept.{KeptLent, keptOutcome, nodesAfter}
+use Rattle.node_lists.specs.Sessions.{Session, call, walked, walkedNode, Reached}
+use Rattle.search.specs.Search.{Lent, reports, countedNumber, thresholdOf, total, queriesFit}
 use Rattle.honest.specs.Honest.{Accepted, recordRead, listRead, Honest, countedStrings, countedWeights, HeavyThroughout}
 use Rattle.honest.specs.Loop.{Passes, firstQuery, keptAt}
 use Rattle.demands.specs.Calls.{Call, causes, InOrder, Area, Nodes, result}
-use Rattle.demands.specs.Words.{Key, InBounds, made, groupWeight, pointKey, pointShare, pointSum, served, walked, byCalls, byKeptCalls, Servable, Ready, Seeded, withShares}
+use Rattle.demands.specs.Words.{Key, InBounds, made, groupWeight, pointKey, pointShare, pointSum, served, byCalls, byKeptCalls, Servable, Ready, Seeded, withShares}
 
 -- ==== Demand 1
 
@@ -96,18 +98,24 @@ Demand2 =
     × ((s : Lent) (xs : List Bits) (ws : List ℤ) (e : Expander) → Honest s xs ws → Servable s xs e
     → (b : Bool) (query : List ℕ) → IsQuery (s .n) query → (room : ℕ) → 8 * prefixCount query ≤ room
     → served s b query room ≡ accepted (totals (pointSum s xs ws e b) (prefixesOf query)))
+    -- Document 02, [2]: 'keep, in a lent list of nodes, the seed and control bit for each report at each prefix of the last query'; 'Nodes stand report by
+    -- report, prefixes in query order.'
+    × ((s : Session) (e : Expander) (last : List ℕ) (nodes : List Node) → choiceOf (s .expander) ≡ Known e → Reached s last nodes
+    → let R = shareCount (s .n) (s .shares) in
+    take (R * length (lastPrefixes last)) nodes ≡ reportByReport R (walkedNode s e) (lastPrefixes last))
     -- Document 02, [2]: 'Provided reports, expander and server stay the same throughout, the list began at the roots, and each later call gets it as the
     -- accepted call before left it, with that call's new query as its last, shares equal those of the walk from the root.'
     × ((s : Session) (last query : List ℕ) (nodes : List Node) (area : List ℕ) → Reached s last nodes
     → keptOutcome (call s last query nodes area) .number ≡ 0 → keptOutcome (call s last query nodes area) ≡ walked s query (length area))
     -- Such calls are accepted where `share` is: nodes that are enough and parents in the last query are all that is asked besides. The list that
-    -- `write_roots` leaves is one at the roots; a refused call leaves the list as it may be given to the next.
+    -- `write_roots` leaves is one at the roots; a refused call of either, whatever it is lent besides, leaves the list as it may be given to the next.
     × ((s : Session) (last query : List ℕ) (nodes : List Node) (area : List ℕ) → Reached s last nodes
     → shareCount (s .n) (s .shares) * length (prefixesOf query) ≤ length nodes → (ParentMissing last query → ⊥)
     → keptOutcome (call s last query nodes area) ≡ walked s query (length area))
     × ((s : Session) (nodes : List Node) → rootsNumber (s .seeds) (length nodes) ≡ 0 → Reached s [] (rootsAfter (s .server) (s .seeds) nodes))
-    × ((s : Session) (last other query : List ℕ) (nodes : List Node) (area : List ℕ) → Reached s last nodes
-    → keptOutcome (call s other query nodes area) .number ≢ 0 → Reached s last (nodesAfter (call s other query nodes area)))
+    × ((s : Session) (last : List ℕ) (c : KeptLent) → Reached s last (c .nodes) → keptOutcome c .number ≢ 0 → Reached s last (nodesAfter c))
+    × ((s : Session) (last : List ℕ) (b : Bool) (seeds : List ℕ) (nodes : List Node) → Reached s last nodes → rootsNumber seeds (length nodes) ≢ 0
+    → Reached s last (rootsAfter b seeds nodes))
     -- 'For honestly made keys with any seeds, the list of an accepted search holds every string of the search's full length that at least t
     -- installations hold and no other, once each, ascending.' So it is where every weight is one.
     × ((s : Lent) (xs : List Bits) (ws : List ℤ) → Honest s xs ws → EveryOne ws → Accepted s → TheHeavyStrings s xs (listRead s))
@@ -120,10 +128,10 @@ Demand2 =
     × ((s : Lent) (xs : List Bits) (ws : List ℤ) → Honest s xs ws → Passes s → TheWeightedStrings s xs ws (byCalls s .listed))
     -- and for any reports, honest or not, what they leave is the record and the list of an accepted search.
     × ((s : Lent) → Accepted s → (recordRead s ≡ heading (countedNumber s) ++ byCalls s .recorded) × (listRead s ≡ byCalls s .listed))
-    -- So do they where both servers keep their nodes, with lists that are long enough for every query.
-    × ((s : Lent) → Accepted s → (nodes : Bool → List Node)
+    -- So it is where both servers keep their nodes: with lists long enough for every query the calls leave the same.
+    × ((s : Lent) → Passes s → queriesFit s ≡ true → (nodes : Bool → List Node)
     → ((b : Bool) (k : ℕ) → k < s .n → reports s * length (children (keptAt s k)) ≤ length (nodes b))
-    → (recordRead s ≡ heading (countedNumber s) ++ byKeptCalls s nodes .recorded) × (listRead s ≡ byKeptCalls s nodes .listed))
+    → byKeptCalls s nodes ≡ byCalls s)
     -- There are such searches: any strings, weights and seeds have public shares with which they are honest, and an honest search that is ready is
     -- accepted.
     × ((s : Lent) (xs : List Bits) (ws : List ℤ) (e : Expander) → Servable s xs e → Seeded s xs ws → (shares : List ℕ) × Honest (withShares s shares) xs ws)
@@ -179,5 +187,6 @@ Demand3 =
 -- The checker accepts no false proof, and its account of the language is the language.
 -- The compiler's back end keeps to that account: of the machine code nothing is proved.
 -- The crates io, libc and os, which only the programs call, do what their contracts say.
+-- A lent node's bit is a byte 0 or 1, as a truth value of C and Rust is.
 -- No contract says which bytes a program's `main` reads and writes; the exam's lends what it reads to `respond`, and writes what that leaves.
 -- That one server alone learns nothing is not shown: it rests on AES-128 and the paper, and the classroom expander hides nothing.

@@ -26,7 +26,6 @@ use Rattle.signed.specs.SignedReading.{embed}
 use Rattle.weights.specs.Weights.{IsWeight, EveryOne}
 use Rattle.report_sums.specs.Reports.{seedAt, allCount, sumWhere}
 use Rattle.idpf.specs.Share.{shareOutcome}
-use Rattle.node_lists.specs.Sessions.{Session}
 use Rattle.search.specs.Search.{Lent, lent, thresholdOf}
 use Rattle.honest.specs.Honest.{countedStrings}
 use Rattle.honest.specs.Loop.{firstQuery, Played, played}
@@ -95,10 +94,6 @@ byCalls s = played s (s .n) firstQuery
 -- the same where server b keeps its nodes in the list `nodes b`, begun at the roots
 abbrev pub byKeptCalls : Lent → (Bool → List Node) → Played
 byKeptCalls s nodes = keptPlayed s (s .n) (begun s nodes) firstQuery
-
--- what the server of a session answers to a query in `room` bytes of space by the walk from the root
-abbrev pub walked : Session → List ℕ → ℕ → Outcome
-walked s query room = shareOutcome (s .n) (s .expander) (s .server) (s .seeds) (s .shares) query room
 
 -- ---- when an honest search is ready
 

@@ -125,7 +125,7 @@ pub next-passes : (n : ℕ) (weighted : Bool) (t : ℕ) (query share0 share1 : L
     × IsQuery n (combineOutcome n weighted t query share0 share1 room .written)
 next-passes n weighted t query share0 share1 room byte told =
     let is = passing.next-told n weighted t query share0 share1 room told in
-    (passing.next-written n weighted t query share0 share1 room byte _ (is .1) (is .0), passing.next-passes n weighted t query share0 share1 room byte _ (is .1) (is .0))
+    (passing.next-written n weighted t query share0 share1 room _ (is .1) (is .0), passing.next-passes n weighted t query share0 share1 room _ (is .1) (is .0) byte)
 
 -- ---- honest searches
 

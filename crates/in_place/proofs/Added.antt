@@ -6,7 +6,7 @@ use mathlib.Core.List.{List, [], _∷_, _++_, append-assoc}
 use lib.ListN.{length, getD, take, drop, set, replicate, length-append, replicate-append-replicate}
 use lib.Seq.{take-at, take-append-add, drop-append-add, drop-cons, set-split}
 use Rattle.places.specs.Places.{window, putAt}
-use Rattle.places.proofs.Places.{window-inside, putAt-inside, putAt-length}
+use Rattle.places.proofs.Places.{window-inside, putAt-inside}
 use Rattle.numbers.specs.Numbers.{little, fromLittle, inBytes}
 use Rattle.numbers.proofs.Endian.{little-length, fromLittle-little, inBytes-length}
 use Rattle.group.specs.Modular.{field}
@@ -22,10 +22,6 @@ inBytes-zeros zero = refl
 inBytes-zeros (suc m) =
     let e : 8 * suc m ≡ 8 + 8 * m = omega arith in
     ap (λ (l : List ℕ). little 8 0 ++ l) (inBytes-zeros m) ∙ replicate-append-replicate 8 (8 * m) 0 ∙ ap (λ (k : ℕ). replicate k 0) (sym e)
-
-pub added-length : (j v : ℕ) (area : List ℕ) → length (addedAt j v area) ≡ length area
-unfolding addedAt
-added-length j v area = putAt-length area (8 * j) (little 8 (field .add (fromLittle (window 8 (8 * j) area)) v))
 
 module _ (rest : List ℕ) where
   -- 8 bytes of one number, and what follows

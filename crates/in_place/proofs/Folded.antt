@@ -139,9 +139,6 @@ module _ (n e : ℕ) (b : Bool) (shares last query : List ℕ) (l : List Node) (
   abbrev pub firstHere : Place
   firstHere = firstPlace taskHere last query
 
-  pub cleared-length : length (cleared taskHere area) ≡ length area
-  cleared-length = folds .as-long
-
   pub within-first : (s : ℕ) → s < firstHere .left
       → (placeAt taskHere shares last query firstHere s .source < length l) × (placeAt taskHere shares last query firstHere s .target < length l)
   within-first = folds .within

@@ -106,7 +106,7 @@ module _ (n e : ℕ) (b : Bool) (shares last query : List ℕ) (l : List Node) (
     length-is : prefixLength query - 1 ≡ length (prefixAt j) - 1
     length-is = omega (arith, level-is, one-longer n last query (r .a-last) (r .a-query) (r .parented) j hj)
 
-    word-is : wordOf task shares i ≡ wordFor n shares last (map nodeOf l) i (prefixAt j)
+    word-is : wordOf task shares i ≡ wordFor n shares i (prefixAt j)
     unfolding wordFor
     word-is = ap (readCorrection n (publicShareAt n shares i)) length-is
 
@@ -115,7 +115,7 @@ module _ (n e : ℕ) (b : Bool) (shares last query : List ℕ) (l : List Node) (
         ap (λ (k : ℕ). getD (bitsOf (packedPrefix query j)) k false) level-is
         ∙ last-bit n last query (r .a-last) (r .a-query) (r .parented) j hj
 
-    node-is : nodeOf (getD l (i * lastCount last + parentAt j) noStruct) ≡ keptNode n shares last (map nodeOf l) i (parent (prefixAt j))
+    node-is : nodeOf (getD l (i * lastCount last + parentAt j) noStruct) ≡ keptNode last (map nodeOf l) i (parent (prefixAt j))
     unfolding keptNode
     node-is =
         let at : i * lastCount last + parentAt j < length l =

@@ -4,16 +4,12 @@ use native.Mathlib.Omega.{arith}
 use mathlib.Core.Path.{_≡_, refl, _∙_}
 use mathlib.Core.Bool.{Bool, true, false, cond}
 use mathlib.Core.List.{List}
-use lib.ListN.{length, getD, set, length-set}
+use lib.ListN.{length, set, length-set}
 use lib.Dec.{eqb}
 use Rattle.nodes.specs.declared.Node.{Node}
-use Rattle.point.specs.Evaluation.{shareBelow}
-use Rattle.point.specs.Instance.{scheme}
-use Rattle.nodes.specs.NodeLayout.{nodeOf}
 use Rattle.turns.specs.declared.Task.{Task}
 use Rattle.turns.specs.declared.Place.{Place}
-use Rattle.turns.specs.Turns.{nowhere, placeFor, firstPlace, nextPlace, turnWord, turnBit, turnedSums, addedAt, noStruct, placeAt, nodesAt, sumsAt}
-use Rattle.in_place.proofs.Added.{added-length}
+use Rattle.turns.specs.Turns.{nowhere, placeFor, firstPlace, nextPlace, placeAt, nodesAt}
 
 -- either way the turns left are the same
 either-left : (left : ℕ) (x : Place) → x .left ≡ left → (a b : Bool) → cond a (nowhere left) (cond b (nowhere left) x) .left ≡ left
@@ -44,19 +40,3 @@ module _ (t : Task) (shares last query : List ℕ) (p : Place) where
   unfolding nodesAt
   nodes-length l zero = refl
   nodes-length l (suc s) = length-set (nodesAt t shares last query p l s) _ _ ∙ nodes-length l s
-
-  turned-length : (at : Place) (m : Node) (o : List ℕ) → length (turnedSums t shares query at m o) ≡ length o
-  unfolding turnedSums
-  turned-length at m o =
-      go (shareBelow (scheme (t .expander)) (t .server) (turnWord t shares at) (turnBit t query at) (nodeOf m)) (at .due)
-    where
-      go : (v : ℕ) (b : Bool) → length (cond b (addedAt (at .prefix) v o) o) ≡ length o
-      go v true = added-length (at .prefix) v o
-      go v false = refl
-
-  pub sums-length : (l : List Node) (o : List ℕ) (s : ℕ) → length (sumsAt t shares last query p l o s) ≡ length o
-  unfolding sumsAt
-  sums-length l o zero = refl
-  sums-length l o (suc s) =
-      let at : Place = placeAt t shares last query p s in
-      turned-length at (getD (nodesAt t shares last query p l s) (at .source) noStruct) (sumsAt t shares last query p l o s) ∙ sums-length l o s

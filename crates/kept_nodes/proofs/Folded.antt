@@ -12,7 +12,7 @@ use Rattle.turns.specs.declared.Place.{Place}
 use Rattle.turns.specs.Turns.{taskOf, cleared, firstPlace, replyOf, nodesAt, sumsAt}
 use Rattle.node_lists.specs.Roots.{rootsNumber, rootsAfter}
 use Rattle.node_lists.specs.Filling.{fillingFirst, filledAt}
-use Rattle.node_lists.specs.ShareKept.{KeptExit, lent, keptExit, keptLeft}
+use Rattle.node_lists.specs.ShareKept.{lent, keptExit, keptLeft}
 use Rattle.node_lists.proofs.AtRoots as roots
 use Rattle.in_place.proofs.Folded as turned
 

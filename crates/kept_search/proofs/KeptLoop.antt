@@ -1,8 +1,7 @@
 -- The search played with kept nodes leaves what it leaves with `share`, where each server's nodes are enough.
 use mathlib.Core.Path.{_≡_, refl, sym, ap, ap₂, _∙_, subst}
 use mathlib.Core.Bool.{Bool, true, false, cond}
-use mathlib.Core.List.{List, [], _∷_, _++_}
-use mathlib.Core.Logic.{inl}
+use mathlib.Core.List.{List, [], _∷_}
 use mathlib.Core.Option.{some}
 use Prim.Native.Nat.{ℕ, zero, suc, _+_, _*_, _/_, _≤_, _<_}
 use native.Mathlib.Nat.{mul-div-right}
@@ -13,30 +12,29 @@ use lib.Dec.{leb}
 use Rattle.places.specs.Lists.{_∈_, select}
 use Rattle.places.proofs.Lists.{and-left, and-right, all-mem, all-each, all-select}
 use Rattle.bits.specs.Strings.{Bits, Ascending}
-use Rattle.calls.specs.Outcome.{Outcome, accepted}
+use Rattle.calls.specs.Outcome.{Outcome}
 use Rattle.point.specs.Node.{Node}
 use Rattle.point.specs.PublicShare.{publicShareLength}
 use Rattle.query.specs.Query.{OfLength, query, limit, children, prefixCount, prefixesOf}
 use Rattle.query.proofs.Children.{children-ascending, select-ascending, kept-longer}
-use Rattle.tree.specs.SearchRule.{start, keptFrom, fitsFrom, isKept, heading, searchList, searchFits}
+use Rattle.tree.specs.SearchRule.{start, keptFrom, fitsFrom, isKept, searchList, searchFits}
 use Rattle.combine.specs.Answer.{Answer, next, list, ended, answerAt, answerBytes, kind}
 use Rattle.combine.specs.Combine.{passesLimit}
-use Rattle.search.specs.Search.{Lent, reports, countedNumber, reachesOf, total, queriesFit}
-use Rattle.search.proofs.Outcome.{Whole, Sound, accepted-clear}
+use Rattle.search.specs.Search.{Lent, reports, reachesOf, total, queriesFit}
+use Rattle.search.proofs.Outcome.{Whole, Sound}
 use Rattle.parents.specs.Parents.{lastPrefixes, parentMissing}
 use Rattle.node_lists.specs.NodeList.{shareCount}
-use Rattle.node_lists.specs.ShareKept.{keptOutcome}
+use Rattle.node_lists.specs.ShareKept.{keptOutcome, nodesAfter}
 use Rattle.node_lists.specs.Sessions.{Session, Reached, after}
 use Rattle.node_lists.proofs.KeptOutcome.{nodes-as-many}
 use Rattle.node_lists.proofs.RootsOutcome.{whole-roots, roots-as-many, roots-reached}
 use Rattle.node_lists.proofs.Chain.{query-last}
 use Rattle.node_lists.proofs.Following.{kept-follows, next-has-parents}
-use Rattle.honest.specs.Honest.{Accepted, recordRead, listRead}
 use Rattle.honest.specs.Loop.{Passes, firstQuery, Played, round, follow, shareOf, shareFor, totalsFor, played, keptAt}
 use Rattle.kept_search.specs.KeptLoop.{Keeping, begun, keptCall, keptOn, roundWith, keptPlayed}
 use Rattle.honest.proofs.Round.{passes, read, round-share}
 use Rattle.honest.proofs.Playing.{written-is, kind-is}
-use Rattle.honest.proofs.Loop.{passing, accepted-played}
+use Rattle.honest.proofs.Loop.{passing}
 
 -- what passes a test stands in the list
 select-in : (f : Bits → Bool) (xs : List Bits) {x : Bits} → x ∈ select f xs → x ∈ xs
@@ -94,8 +92,8 @@ module _ (s : Lent) (sound : Sound s) where
     goes-on : Going nodes (keptOn s g q) (select keeps (children ps))
     goes-on = record {
       reached = λ b.
-          after (g .last) q (g .nodes b) (replicate (8 * prefixCount q) 0) (going .reached b)
-          (ap (λ (o : Outcome). o .number) (same-outcome b ∙ round-share s sound k short ps some-kept few sized sorted b));
+          after (g .last) q (g .nodes b) (nodesAfter (keptCall s b g q)) (replicate (8 * prefixCount q) 0) (going .reached b)
+          (ap (λ (o : Outcome). o .number) (same-outcome b ∙ round-share s sound k short ps some-kept few sized sorted b)) refl;
       as-lent = λ b. nodes-as-many (keptCall s b g q) ∙ going .as-lent b;
       held = λ p m.
           subst (λ (ls : List Bits). p ∈ ls) (sym (query-last (s .n) q (passes s sound k short ps some-kept few sized sorted) .1 ∙ reads))
@@ -191,13 +189,3 @@ kept-played s ok within nodes enough = go (s .n) refl within enough
     go (suc m) e fits enough =
         play-same s (passing s ok) nodes m (begun s nodes) 0 start (omega (arith, e)) (omega arith) (refl, tt) (tt, tt) fits
         (begun-going s (passing s ok) nodes (λ b. omega (arith, enough b 0 (omega arith)))) enough
-
--- So the record and the list that an accepted search leaves are those that the calls with kept nodes leave.
-pub accepted-kept-played : (s : Lent) → Accepted s → (nodes : Bool → List Node)
-    → ((b : Bool) (k : ℕ) → k < s .n → reports s * length (children (keptAt s k)) ≤ length (nodes b))
-    → (recordRead s ≡ heading (countedNumber s) ++ keptPlayed s (s .n) (begun s nodes) firstQuery .recorded)
-    × (listRead s ≡ keptPlayed s (s .n) (begun s nodes) firstQuery .listed)
-accepted-kept-played s ok nodes enough =
-    let same = sym (kept-played s (inl ok) (accepted-clear s ok .queries-fit) nodes enough) in
-    let e = accepted-played s ok in
-    (e .0 ∙ ap (λ (o : Played). heading (countedNumber s) ++ o .recorded) same, e .1 ∙ ap (λ (o : Played). o .listed) same)

@@ -1,1 +1,2 @@
 pub mod KeptLoop
+pub mod NextParented

@@ -3,10 +3,12 @@ use Prim.Native.Nat.{ℕ, zero, suc, _+_, _*_, _<_}
 use native.Mathlib.Omega.{arith}
 use native.Mathlib.Nat.{zero-mul, suc-mul, mul-le-mul-right}
 use native.Mathlib.Decide.{decLt}
-use mathlib.Core.Path.{_≡_, refl, sym, ap, _∙_}
-use mathlib.Core.List.{List, [], _∷_, map}
+use mathlib.Core.Path.{_≡_, refl, sym, ap, ap₂, _∙_}
+use mathlib.Core.List.{List, [], _∷_, _++_, map}
+use mathlib.Core.List.{List·Memᴰ·head as here, List·Memᴰ·tail as there}
 use lib.ListN.{length, getD, length-append, length-map, List·getD-append}
 use lib.Seq.{getD-append-add}
+use Rattle.places.specs.Lists.{_∈_}
 use Rattle.bits.specs.Strings.{Bits}
 use Rattle.point.specs.Node.{Node}
 use Rattle.node_lists.specs.NodeList.{reportByReport, noNode}
@@ -45,3 +47,15 @@ module _ (f : ℕ → Bits → Node) (qs : List Bits) where
             ∙ map-at (f m) qs j l
             ∙ ap (λ (t : ℕ). f t (getD qs j [])) (sym e)
       ]
+
+-- functions that agree on a list have the same images of it
+pub map-same : {A : Type 0} (f g : Bits → A) (qs : List Bits) → ((q : Bits) → q ∈ qs → f q ≡ g q) → map f qs ≡ map g qs
+map-same f g [] h = refl
+map-same f g (q ∷ qs) h = ap₂ _∷_ (h q (here refl)) (map-same f g qs (λ x m. h x (there m)))
+
+pub by-report-same : (f g : ℕ → Bits → Node) (qs : List Bits) (m : ℕ) → ((i : ℕ) → i < m → (q : Bits) → q ∈ qs → f i q ≡ g i q)
+    → reportByReport m f qs ≡ reportByReport m g qs
+unfolding reportByReport
+by-report-same f g qs zero h = refl
+by-report-same f g qs (suc m) h =
+    ap₂ _++_ (by-report-same f g qs m (λ i l. h i (omega arith))) (map-same (f m) (g m) qs (h m (omega arith)))

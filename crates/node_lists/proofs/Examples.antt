@@ -1,7 +1,7 @@
 -- Numbers and lists computed: the order of nodes, and the causes of `write_roots` and `share_kept` in their order.
 use Prim.Native.Nat.{ℕ}
 use mathlib.Core.Path.{_≡_, refl}
-use mathlib.Core.Bool.{true, false}
+use mathlib.Core.Bool.{false}
 use mathlib.Core.List.{List, [], _∷_}
 use lib.ListN.{replicate}
 use Rattle.bits.specs.Strings.{Bits}

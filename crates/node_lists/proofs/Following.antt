@@ -9,7 +9,7 @@ use mathlib.Core.List.{List·Memᴰ·head as here, List·Memᴰ·tail as there}
 use mathlib.Core.Logic.{_≢_}
 use borrow.Author.Tests.{eqb-true, eqb-false, eq-eqb, le-ltb}
 use lib.ListN.{length, length-append}
-use lib.Seq.{take-at}
+use lib.Seq.{take-at, length-take-le}
 use lib.Dec.{eqb}
 use Rattle.places.specs.Lists.{_∈_}
 use Rattle.bits.specs.Strings.{Bits, _▹_}
@@ -23,14 +23,16 @@ use Rattle.query.proofs.Children.{children-longer}
 use Rattle.query.proofs.Queries.{read-prefixes}
 use Rattle.report_sums.specs.Reports.{reportCount}
 use Rattle.report_sums.specs.Checks.{wrongLengths}
-use Rattle.idpf.specs.Share.{shareCauses, shareOutcome}
+use Rattle.idpf.specs.Share.{shareCauses}
 use Rattle.idpf.proofs.ShareOutcome.{outcome-number, outcome-refused, outcome-accepted}
 use Rattle.parents.specs.Parents.{isLast, lastPrefixes, parent, parentMissing}
 use Rattle.parents.proofs.Members.{missing-told}
 use Rattle.node_lists.specs.ShareKept.{KeptLent, keptNumber, keptOutcome, nodesAfter}
-use Rattle.node_lists.specs.Sessions.{Session, call, Reached, at-roots, after}
+use Rattle.node_lists.specs.Sessions.{Session, call, walked, Reached, at-roots, after}
+use Rattle.node_lists.proofs.Overlaid.{as-long}
+use Rattle.node_lists.proofs.RootsOutcome.{roots-one-each}
 use Rattle.node_lists.proofs.KeptOutcome.{kept-number, kept-refused, nodes-refused, kept-ready, kept-accepted, nodes-as-many}
-use Rattle.node_lists.proofs.Chain.{query-last, reports, seeds-count, roots-enough, reached-stands, bytes-walked}
+use Rattle.node_lists.proofs.Chain.{query-last, reports, seeds-count, reached-stands, bytes-walked}
 
 -- ---- the causes of both calls
 
@@ -54,27 +56,26 @@ module _ (s : Session) where
   -- what is known of a list whatever the expander
   pub reached-last : {last : List ℕ} {nodes : List Node} → Reached s last nodes
       → (isLast (s .n) last ≡ true) × (reports s * length (lastPrefixes last) ≤ length nodes)
-  reached-last (at-roots nodes h) = (refl, roots-enough s nodes h)
-  reached-last (after last query nodes area r h) =
-      let d = kept-ready (call s last query nodes area) h in
+  reached-last (at-roots nodes h) =
+      (refl, omega (arith, as-long (reports s) nodes _ h (omega (arith, roots-one-each (s .server) (s .seeds), seeds-count s))))
+  reached-last (after last query nodes left area r h same) =
+      let c : KeptLent = call s last query nodes area in
+      let d = kept-ready c h in
       let l = query-last (s .n) query (d .a-query) in
-      (l .0, rw (l .1) (omega (arith, d .query-nodes, nodes-as-many (call s last query nodes area))))
+      let used : ℕ = reports s * length (prefixesOf query) in
+      (l .0, rw (l .1) (as-long used left _ same (omega (arith, length-take-le used (nodesAfter c) (omega (arith, d .query-nodes, nodes-as-many c))))))
+
+  -- a refused call of any session leaves the list as it may be given to the next
+  pub reached-between : (last : List ℕ) (c : KeptLent) → Reached s last (c .nodes) → keptOutcome c .number ≢ 0 → Reached s last (nodesAfter c)
+  reached-between last c r h = subst (Reached s last) (sym (nodes-refused c (λ z. h (kept-number c ∙ z)))) r
 
 module _ (s : Session) (last query : List ℕ) (nodes : List Node) (area : List ℕ) where
   -- the call, and the outcome of the walk from the root
   abbrev kept : KeptLent
   kept = call s last query nodes area
 
-  abbrev pub walked : Outcome
-  walked = shareOutcome (s .n) (s .expander) (s .server) (s .seeds) (s .shares) query (length area)
-
-  -- a refused call between changes no node
-  pub refused-between : keptOutcome kept .number ≢ 0 → nodesAfter kept ≡ nodes
-  refused-between h = nodes-refused kept (λ z. h (kept-number kept ∙ z))
-
-  -- so the list may still be given to a call, whatever that call's queries were
-  pub reached-between : {before : List ℕ} → Reached s before nodes → keptOutcome kept .number ≢ 0 → Reached s before (nodesAfter kept)
-  reached-between {before} r h = subst (Reached s before) (sym (refused-between h)) r
+  abbrev answered : Outcome
+  answered = walked s query (length area)
 
   same-number : isLast (s .n) last ≡ true → reports s * length (lastPrefixes last) ≤ length nodes → reports s * length (prefixesOf query) ≤ length nodes
       → parentMissing last query ≡ false → keptNumber kept ≡ numberDue (shareCauses (s .n) (s .expander) (s .seeds) (s .shares) query (length area))
@@ -92,19 +93,19 @@ module _ (s : Session) (last query : List ℕ) (nodes : List Node) (area : List 
 
   -- Where the nodes are enough for the new query and no parent is missing, both calls have one outcome, the number of a refusal included.
   pub kept-follows : Reached s last nodes → reports s * length (prefixesOf query) ≤ length nodes → parentMissing last query ≡ false
-      → keptOutcome kept ≡ walked
+      → keptOutcome kept ≡ answered
   kept-follows r now found =
       go (eqb (keptOutcome kept .number) 0) refl
     where
       causes-number : keptOutcome kept .number ≡ numberDue (shareCauses (s .n) (s .expander) (s .seeds) (s .shares) query (length area))
       causes-number = let l = reached-last s r in kept-number kept ∙ same-number (l .0) (l .1) now found
 
-      judged-number : keptOutcome kept .number ≡ walked .number
+      judged-number : keptOutcome kept .number ≡ answered .number
       judged-number =
           outcome-number (s .n) (s .expander) (s .server) (s .seeds) (s .shares) query (length area)
           (causes-number ∙ sym (judged-due (shareCauses (s .n) (s .expander) (s .seeds) (s .shares) query (length area)) []))
 
-      go : (b : Bool) → eqb (keptOutcome kept .number) 0 ≡ b → keptOutcome kept ≡ walked
+      go : (b : Bool) → eqb (keptOutcome kept .number) 0 ≡ b → keptOutcome kept ≡ answered
       go true e =
           let h : keptOutcome kept .number ≡ 0 = eqb-true _ 0 e in
           let d = kept-ready kept h in
@@ -120,7 +121,7 @@ module _ (s : Session) (last query : List ℕ) (nodes : List Node) (area : List 
           (causes-number ∙ sym (judged-due (shareCauses (s .n) (s .expander) (s .seeds) (s .shares) query (length area)) [])) z))
 
   -- 'shares equal those of the walk from the root'
-  pub chain : Reached s last nodes → keptOutcome kept .number ≡ 0 → walked ≡ keptOutcome kept
+  pub chain : Reached s last nodes → keptOutcome kept .number ≡ 0 → answered ≡ keptOutcome kept
   chain r h = let d = kept-ready kept h in sym (kept-follows r (d .query-nodes) (d .parented))
 
 -- ---- the next query

@@ -4,8 +4,8 @@ use native.Mathlib.Omega.{arith}
 use native.Mathlib.Decide.{decLt}
 use mathlib.Core.Path.{_≡_, refl, sym, ap, _∙_}
 use mathlib.Core.List.{List, [], _∷_, map}
-use lib.ListN.{length, getD, drop, length-map, List·getD-append, List·getD-map}
-use lib.Seq.{drop-at, getD-append-add, getD-drop, ext-getD}
+use lib.ListN.{length, getD, take, drop, length-map, List·getD-append, List·getD-map}
+use lib.Seq.{take-at, take-all, drop-at, getD-append-add, getD-drop, ext-getD}
 use Rattle.places.specs.Places.{overlay}
 use Rattle.places.proofs.Places.{overlay-length}
 
@@ -15,6 +15,19 @@ module _ {A : Type 0} where
   getD-any [] i d e h = absurd (omega arith)
   getD-any (x ∷ l) zero d e h = refl
   getD-any (x ∷ l) (suc i) d e h = getD-any l i d e (omega arith)
+
+  -- the new elements stand first
+  pub overlay-first : (vs l : List A) (n : ℕ) → length vs ≡ n → take n (overlay vs l) ≡ vs
+  unfolding overlay
+  overlay-first vs l n h = take-at vs (drop (length vs) l) n h
+
+  -- a list whose first n elements are at least n has as many
+  pub as-long : (n : ℕ) (l m : List A) → take n l ≡ m → n ≤ length m → n ≤ length l
+  as-long n l m e h =
+      elim (decLt (length l) n) [
+        | yes a ↦ absurd (omega (arith, ap length (sym (take-all n l (omega arith)) ∙ e)))
+        | no a ↦ omega arith
+      ]
 
   -- what stands past the new elements is as it was
   pub overlay-spare : (vs l : List A) (n : ℕ) → length vs ≡ n → drop n (overlay vs l) ≡ drop n l

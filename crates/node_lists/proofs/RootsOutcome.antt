@@ -6,7 +6,7 @@ use mathlib.Core.Bool.{Bool, true, false, not}
 use mathlib.Core.List.{List, []}
 use mathlib.Core.Logic.{_≢_}
 use borrow.Author.Tests.{eqb-true, eqb-false, eq-eqb, ne-eqb, le-ltb, ltb-false, not-false}
-use lib.ListN.{length, drop}
+use lib.ListN.{length, take, drop}
 use lib.Dec.{eqb}
 use Rattle.places.specs.Places.{overlay}
 use Rattle.places.proofs.Places.{overlay-nil, overlay-length}
@@ -14,9 +14,10 @@ use Rattle.calls.specs.Bounds.{mostReports}
 use Rattle.calls.proofs.Judged.{number-clear}
 use Rattle.point.specs.Node.{Node}
 use Rattle.tree.specs.SearchRule.{start}
+use Rattle.node_lists.specs.NodeList.{shareCount}
 use Rattle.node_lists.specs.Roots.{roots, rootsCauses, rootsNumber, rootsAfter}
 use Rattle.node_lists.specs.Sessions.{Session, Reached, at-roots}
-use Rattle.node_lists.proofs.Overlaid.{overlay-spare}
+use Rattle.node_lists.proofs.Overlaid.{overlay-first, overlay-spare}
 use Rattle.node_lists.proofs.ByReport.{by-report-length}
 
 -- The seeds are whole and not too many, and the nodes are enough.
@@ -74,5 +75,11 @@ module _ (b : Bool) (seeds : List ℕ) where
 -- a list that the call has begun may be given to the first call of a session
 pub roots-reached : (s : Session) (nodes : List Node) → rootsNumber (s .seeds) (length nodes) ≡ 0 → Reached s [] (rootsAfter (s .server) (s .seeds) nodes)
 roots-reached s nodes h =
-    subst (Reached s []) (sym (roots-accepted (s .server) (s .seeds) nodes h))
-    (at-roots nodes (omega (arith, s .as-many, roots-whole (s .seeds) (length nodes) h .enough)))
+    at-roots (rootsAfter (s .server) (s .seeds) nodes)
+    (ap (take (shareCount (s .n) (s .shares))) (roots-accepted (s .server) (s .seeds) nodes h)
+    ∙ overlay-first (roots (s .server) (s .seeds)) nodes (shareCount (s .n) (s .shares)) (omega (arith, s .as-many, roots-one-each (s .server) (s .seeds))))
+
+-- a refused beginning of any list leaves it as it may be given to the next call
+pub begun-between : (s : Session) (last : List ℕ) (b : Bool) (seeds : List ℕ) (nodes : List Node) → Reached s last nodes
+    → rootsNumber seeds (length nodes) ≢ 0 → Reached s last (rootsAfter b seeds nodes)
+begun-between s last b seeds nodes r h = subst (Reached s last) (sym (roots-refused b seeds nodes h)) r

@@ -16,7 +16,7 @@ use Rattle.tree.specs.SearchRule.{totals}
 use Rattle.report_sums.specs.Reports.{publicShareAt, allCount, sumWhere}
 use Rattle.parents.specs.Parents.{lastPrefixes, parent, lastBit, placeIn}
 
--- how many reports the public shares are of
+-- how many reports the public shares are of; 0 where n = 0, as a number divided by 0 is 0
 abbrev pub shareCount : ℕ → List ℕ → ℕ
 shareCount n shares = length shares / publicShareLength n
 
@@ -29,24 +29,25 @@ reportByReport (suc m) f qs = reportByReport m f qs ++ map (f m) qs
 abbrev pub noNode : Node
 noNode = record { seed = []; bit = false }
 
--- Reports of n bits with these public shares, and the nodes kept at the last query.
-module _ (n : ℕ) (shares last : List ℕ) (nodes : List Node) where
-  -- the kept node of report i at a prefix p of the last query
-  unfoldable pub keptNode : ℕ → Bits → Node
-  keptNode i p = getD nodes (i * length (lastPrefixes last) + placeIn p (lastPrefixes last)) noNode
+-- the node of report i at a prefix p of the last query, of those that are kept there
+unfoldable pub keptNode : List ℕ → List Node → ℕ → Bits → Node
+keptNode last nodes i p = getD nodes (i * length (lastPrefixes last) + placeIn p (lastPrefixes last)) noNode
 
+-- Reports of n bits with these public shares.
+module _ (n : ℕ) (shares : List ℕ) where
   -- the correction word of report i for the last bit of q
   unfoldable pub wordFor : ℕ → Bits → Correction ℕ
   wordFor i q = readCorrection n (publicShareAt n shares i) (length q - 1)
 
-  module _ (e : Expander) where
+  -- The nodes that are kept at the last query.
+  module _ (last : List ℕ) (nodes : List Node) (e : Expander) where
     -- the node of report i at the prefix q: one step down from the kept one at its parent
     unfoldable pub nodeBelow : ℕ → Bits → Node
-    nodeBelow i q = descend (scheme e) (wordFor i q) (lastBit q) (keptNode i (parent q))
+    nodeBelow i q = descend (scheme e) (wordFor i q) (lastBit q) (keptNode last nodes i (parent q))
 
     -- server b's share of report i there
     unfoldable pub shareFrom : Bool → ℕ → Bits → ℕ
-    shareFrom b i q = shareBelow (scheme e) b (wordFor i q) (lastBit q) (keptNode i (parent q))
+    shareFrom b i q = shareBelow (scheme e) b (wordFor i q) (lastBit q) (keptNode last nodes i (parent q))
 
     -- the nodes at the prefixes of the new query
     unfoldable pub newNodes : List ℕ → List Node

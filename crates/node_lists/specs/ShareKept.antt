@@ -1,7 +1,7 @@
 -- The call `share_kept`: document 02, [2], a server's share from kept nodes.
 use Prim.Native.Nat.{ℕ, _*_, _%_, _<_}
 use mathlib.Core.Bool.{Bool, cond, not, _&&_, _||_}
-use mathlib.Core.List.{List, [], _∷_, _++_}
+use mathlib.Core.List.{List, [], _∷_}
 use mathlib.Core.Logic.{_≢_, _⊎_}
 use lib.ListN.{length}
 use lib.Dec.{eqb, ltb}
@@ -40,29 +40,20 @@ TooFewNodes reports last query count = (count < reports * length (lastPrefixes l
 abbrev pub tooFewNodes : ℕ → List ℕ → List ℕ → ℕ → Bool
 tooFewNodes reports last query count = ltb count (reports * length (lastPrefixes last)) || ltb count (reports * length (prefixesOf query))
 
--- the causes of the settings and the reports
-abbrev pub reportCauses : ℕ → ℕ → List ℕ → List Cause
-reportCauses n e shares =
+-- the causes in their order, where `count` nodes and `room` bytes are lent
+abbrev pub keptCauses : ℕ → ℕ → List ℕ → List ℕ → List ℕ → ℕ → ℕ → List Cause
+keptCauses n e shares last query count room =
     lengthCause n
     ∷ expanderCause e
     ∷ cause 4 (length shares % publicShareLength n ≢ 0) (not (eqb (length shares % publicShareLength n) 0))
     ∷ reportsCause (shareCount n shares)
     ∷ cause 6 (PayloadTooLarge n (shareCount n shares) shares) (payloadTooLarge n (shareCount n shares) shares)
     ∷ cause 7 (SpareBitsSet n (shareCount n shares) shares) (spareBitsSet n (shareCount n shares) shares)
-    ∷ []
-
--- those of the queries, the nodes and the space, where `count` nodes and `room` bytes are lent
-abbrev pub queryCauses : ℕ → ℕ → List ℕ → List ℕ → ℕ → ℕ → List Cause
-queryCauses n reports last query count room =
-    cause 9 ((IsLast n last → ⊥) ⊎ (IsQuery n query → ⊥)) (not (isLast n last && isQuery n query))
-    ∷ cause 13 (TooFewNodes reports last query count) (tooFewNodes reports last query count)
+    ∷ cause 9 ((IsLast n last → ⊥) ⊎ (IsQuery n query → ⊥)) (not (isLast n last && isQuery n query))
+    ∷ cause 13 (TooFewNodes (shareCount n shares) last query count) (tooFewNodes (shareCount n shares) last query count)
     ∷ cause 14 (ParentMissing last query) (parentMissing last query)
     ∷ spaceCause (8 * prefixCount query) room
     ∷ []
-
--- all of them
-abbrev pub keptCauses : ℕ → ℕ → List ℕ → List ℕ → List ℕ → ℕ → ℕ → List Cause
-keptCauses n e shares last query count room = reportCauses n e shares ++ queryCauses n (shareCount n shares) last query count room
 
 module _ (s : KeptLent) where
   -- the causes of this call, and the number that is due

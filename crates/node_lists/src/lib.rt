@@ -12,7 +12,8 @@ ghost use Rattle.point.specs.PublicShare.{publicShareLength};
 ghost use Rattle.node_lists.specs.NodeList.{shareCount};
 ghost use Rattle.node_lists.specs.Roots.{rootsNumber};
 ghost use Rattle.node_lists.specs.Filling.{fillingFirst, rootNode, fillingNext};
-ghost use Rattle.node_lists.specs.ShareKept.{tooFewNodes, reportCauses, queryCauses, keptCauses};
+ghost use Rattle.node_lists.specs.ShareKept.{tooFewNodes, keptCauses};
+ghost use Rattle.node_lists.specs.Judging.{reportCauses, queryCauses};
 
 // How many reports the public shares are of; none where n = 0.
 pub fn share_count(n: u16, shares: &[u8]) -> usize

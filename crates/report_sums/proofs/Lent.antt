@@ -6,9 +6,9 @@ use Prim.Native.Nat.{ℕ, suc, _+_, _-_, _*_, _/_, _≤_, _<_, min}
 use native.Mathlib.Nat.{div-zero, div-add-mod, min-zero, min-eq-left, min-eq-right, min-le-left, min-le-right, mul-le-mul-left, mul-suc}
 use native.Mathlib.Numerals.{add-one}
 use native.Mathlib.Omega.{arith}
-use lib.ListN.{length, getD, take, drop}
-use Rattle.places.specs.Places.{Bytes, window}
-use Rattle.places.proofs.Places.{window-inside, window-bytes}
+use lib.ListN.{length, take, drop}
+use Rattle.places.specs.Places.{window}
+use Rattle.places.proofs.Places.{window-inside}
 use Rattle.expander.specs.declared.Expander.{Expander}
 use Rattle.group.specs.Modular.{field}
 use Rattle.point.specs.Evaluation.{share}
@@ -47,13 +47,6 @@ module _ (n : ℕ) (seeds shares : List ℕ) (i : ℕ) (h : i < reportCount n se
       let less : i < length shares / l =
       rw e (omega (arith, min-le-right (length seeds / 16) (length shares / publicShareLength n))) in
       pieces-inside l i (length shares) less
-
-  -- the public share of report i is bytes, where all that is lent is
-  pub share-bytes : ((j : ℕ) → getD shares j 0 < 256) → Bytes (publicShareLength n) (publicShareAt n shares i)
-  share-bytes byte =
-      let w = publicShareLength n in
-      let part : window w (w * i) shares ≡ publicShareAt n shares i = window-inside w (w * i) shares (share-inside refl) in
-      rw part at (window-bytes w (w * i) shares byte)
 
   -- the share of report i, from the seed and the part of the slice that the code takes
   pub lent-part : (e : Expander) (b : Bool) (q : ℕ → Bool) (k : ℕ) {l r : ℕ} {s : List ℕ} → l ≡ publicShareLength n → s ≡ window 16 (16 * i) seeds

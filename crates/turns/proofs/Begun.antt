@@ -1,12 +1,12 @@
 -- The task that a call begins with, refused and not.
-use Prim.Native.Nat.{ℕ, _-_, _*_, _≤_}
+use Prim.Native.Nat.{ℕ, _-_, _*_}
 use mathlib.Core.Path.{_≡_, refl, sym, ap, _∙_}
-use mathlib.Core.Bool.{Bool, false}
+use mathlib.Core.Bool.{Bool}
 use mathlib.Core.List.{List}
 use mathlib.Core.Logic.{_≢_}
 use native.Mathlib.Omega.{arith}
 use borrow.Author.Tests.{eq-eqb, ne-eqb}
-use lib.ListN.{length, replicate}
+use lib.ListN.{replicate}
 use Rattle.places.specs.Places.{overlay}
 use Rattle.places.proofs.Places.{overlay-nil}
 use Rattle.calls.specs.Causes.{numberDue}

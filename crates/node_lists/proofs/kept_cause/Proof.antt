@@ -1,6 +1,6 @@
 -- `node_lists::kept_cause` meets its contract.
 use native.Mathlib.Omega.{arith}
-use mathlib.Core.Path.{_≡_, sym, ap, _∙_}
+use mathlib.Core.Path.{sym, ap, _∙_}
 use mathlib.Core.List.{List}
 use Prim.Native.Nat.{ℕ}
 use borrow.Author.Tests.{ltb-false}
@@ -9,7 +9,7 @@ use Rattle.calls.specs.Causes.{Cause, numberDue}
 use Rattle.calls.proofs.Decisions.{bounds}
 use Rattle.calls.proofs.Judged.{Clear, first-due, second-due, number-clear}
 use Rattle.node_lists.specs.NodeList.{shareCount}
-use Rattle.node_lists.specs.ShareKept.{reportCauses, queryCauses}
+use Rattle.node_lists.specs.Judging.{reportCauses, queryCauses}
 use borrow.Author.Needs.{needs}
 use Rattle.node_lists.proofs.kept_cause.Statement.{statement}
 use Rattle.node_lists.proofs.kept_cause.Tie as tie

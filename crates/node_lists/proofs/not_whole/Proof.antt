@@ -1,5 +1,5 @@
 -- `node_lists::not_whole` meets its contract.
-use mathlib.Core.Path.{_≡_, ap}
+use mathlib.Core.Path.{ap}
 use mathlib.Core.Bool.{not}
 use Prim.Native.Nat.{ℕ, _%_}
 use lib.ListN.{length}

@@ -1,6 +1,6 @@
 -- `node_lists::report_cause` meets its contract.
 use mathlib.Core.Path.{_≡_, sym, ap, _∙_}
-use mathlib.Core.Bool.{Bool, true, false, not}
+use mathlib.Core.Bool.{true, false, not}
 use native.Mathlib.Omega.{arith}
 use native.Mathlib.Nat.{min-eq-left}
 use Prim.Native.Nat.{ℕ, _/_, _%_, min}
@@ -29,9 +29,6 @@ start₃ c = start₂ (c .before .before)
 
 abbrev start₄ : tie.Else4 → tie.Start
 start₄ c = start₃ (c .before .before .before)
-
-abbrev start₅ : tie.Else5 → tie.Start
-start₅ c = start₄ (c .before .before .before)
 
 -- ---- the tests that were passed
 

@@ -1,5 +1,5 @@
 -- `node_lists::share_count` meets its contract.
-use mathlib.Core.Path.{_≡_, sym, ap, _∙_}
+use mathlib.Core.Path.{sym, ap, _∙_}
 use Prim.Native.Nat.{ℕ, _/_}
 use native.Mathlib.Nat.{div-zero}
 use lib.ListN.{length}

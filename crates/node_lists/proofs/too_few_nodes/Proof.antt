@@ -1,6 +1,6 @@
 -- `node_lists::too_few_nodes` meets its contract.
 use mathlib.Core.Path.{_≡_, sym, ap, _∙_}
-use mathlib.Core.Bool.{Bool, true, false, _||_}
+use mathlib.Core.Bool.{true, _||_}
 use native.Mathlib.Omega.{arith}
 use native.Mathlib.Nat.{mul-le-mul}
 use Prim.Native.Nat.{ℕ, _*_, _≤_, _<_}
@@ -9,9 +9,8 @@ use lib.ListN.{length}
 use lib.Dec.{ltb}
 use borrow.Author.Tests.{lt-ltb, le-ltb}
 use Rattle.parents.specs.Lookup.{lastCount}
-use Rattle.parents.specs.Parents.{lastPrefixes}
 use Rattle.parents.proofs.Last.{last-count, prefixes-length}
-use Rattle.query.specs.Query.{prefixCount, prefixesOf}
+use Rattle.query.specs.Query.{prefixCount}
 use Rattle.node_lists.specs.ShareKept.{tooFewNodes}
 use borrow.Author.Needs.{needs}
 use Rattle.node_lists.proofs.too_few_nodes.Statement.{statement}

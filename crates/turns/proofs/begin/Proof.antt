@@ -1,11 +1,8 @@
 -- `turns::begin` meets its contract.
-use Prim.Native.Nat.{ℕ}
 use native.Mathlib.Omega.{arith}
-use mathlib.Core.Path.{_≡_, refl, sym, ap, _∙_}
+use mathlib.Core.Path.{sym, ap, _∙_}
 use borrow.Author.Needs.{needs}
 use lib.ListN.{length}
-use Rattle.calls.specs.Causes.{numberDue}
-use Rattle.node_lists.specs.ShareKept.{keptCauses}
 use Rattle.node_lists.proofs.KeptOutcome.{Ready}
 use Rattle.turns.proofs.Begun.{begun-ready, task-refused, area-refused, task-accepted, area-accepted, never-unknown}
 use Rattle.turns.proofs.begin.Statement.{statement}
