@@ -184,8 +184,8 @@ into out kind o =
     let x = exit o out in
     record { number = x .number; areas = record { entry = out; exit = x .area; returned = x .length; isRecord = false } ∷ []; lists = []; kind = kind }
 
--- what the contracts say of number, lengths, areas and nodes: `keyExit`, `shareExit`, `keptExit`, `addExit`, `combineExit`, `searchEnding`, `examExit`, `respondExit` and
--- `blockExit` are these, part by part: `exit` of the same outcomes, and the search's own
+-- what the contracts say of number, lengths, areas and nodes: `keyExit`, `shareExit`, `keptExit`, `addExit`, `combineExit`, `searchEnding`, `examExit`,
+-- `respondExit` and `blockExit` are these, part by part: `exit` of the same outcomes, and the own of the kept share, of the roots and of the search
 abbrev pub result : Call → Result
 result (makeKey l) = into (l .out) none (keyOutcome (l .n) (l .expander) (l .weight) (l .string) (l .seed0) (l .seed1) (length (l .out)))
 result (serverShare l) = into (l .out) none (shareOutcome (l .n) (l .expander) (l .server) (l .seeds) (l .publicShares) (l .query) (length (l .out)))

@@ -21,8 +21,8 @@ use Rattle.nodes.specs.NodeLayout.{nodeOf}
 use Rattle.tree.proofs.Lengths.{totals-length}
 use Rattle.parents.proofs.Last.{prefixes-length}
 use Rattle.node_lists.specs.NodeList.{keptShare}
-use Rattle.node_lists.specs.ShareKept.{KeptLent, lent, keptCauses, keptNumber, keptOutcome, KeptExit, keptExit, keptLeft}
-use Rattle.node_lists.proofs.KeptOutcome.{Ready, clear-ready, kept-number, kept-refused, nodes-refused, kept-accepted, nodes-accepted}
+use Rattle.node_lists.specs.ShareKept.{KeptLent, lent, keptCauses, keptOutcome, KeptExit, keptExit, keptLeft}
+use Rattle.node_lists.proofs.KeptOutcome.{keptNumber, Ready, clear-ready, kept-number, kept-refused, nodes-refused, kept-accepted, nodes-accepted}
 use Rattle.turns.specs.declared.Task.{Task}
 use Rattle.turns.specs.declared.Place.{Place}
 use Rattle.turns.specs.Turns.{refusedTask, taskUnder, taskOf, cleared, replyOf, firstPlace, placeAt, nodesAt, sumsAt}
@@ -45,7 +45,6 @@ module _ (n e : ℕ) (b : Bool) (shares last query : List ℕ) (l : List Node) (
   number = numberDue (keptCauses n e shares last query (length l) (length area))
 
   same-number : keptNumber call ≡ number
-  unfolding keptNumber
   same-number = ap (λ (count : ℕ). numberDue (keptCauses n e shares last query count (length area))) (length-map l nodeOf)
 
   -- What the task's turns keep to, and what they leave.

@@ -13,7 +13,8 @@ use Rattle.point.specs.PublicShare.{every, payloadsBelow, spareBitsZero, readCo
 use Rattle.query.specs.Query.{parts, sparesZero, isAscending, isQuery}
 use Rattle.node_lists.specs.NodeList.{reportByReport, noNode}
 use Rattle.node_lists.specs.Roots.{rootsNumber}
-use Rattle.node_lists.specs.ShareKept.{lent, keptNumber}
+use Rattle.node_lists.specs.ShareKept.{lent}
+use Rattle.node_lists.proofs.KeptOutcome.{keptNumber}
 
 -- report by report, prefixes in order
 by-report : (f : ℕ → Bits → Node) (p q : Bits) → reportByReport 2 f (p ∷ q ∷ []) ≡ f 0 p ∷ f 0 q ∷ f 1 p ∷ f 1 q ∷ []
@@ -40,11 +41,11 @@ number last query count room = keptNumber (lent 2 2 false (replicate 49 0) last 
 
 -- from the roots, and on from there
 kept-numbers : (number [] first 2 16 ≡ 0) × (number first second 2 16 ≡ 0)
-unfolding keptNumber isQuery parts sparesZero isAscending spareZero unpack bitsOf digits window fromBig fromLittle every payloadsBelow spareBitsZero readCorrection
+unfolding isQuery parts sparesZero isAscending spareZero unpack bitsOf digits window fromBig fromLittle every payloadsBelow spareBitsZero readCorrection
 kept-numbers = (refl, refl)
 
 -- 9 before 13 before 14 before 11
 kept-order : (number (1 ∷ []) second 1 0 ≡ 9) × (number first (1 ∷ []) 1 0 ≡ 9) × (number zero-query second 1 0 ≡ 13) × (number first zero-query 1 0 ≡ 13)
     × (number zero-query second 2 0 ≡ 14) × (number [] second 2 0 ≡ 14) × (number first first 2 0 ≡ 14) × (number first second 2 15 ≡ 11)
-unfolding keptNumber isQuery parts sparesZero isAscending spareZero unpack bitsOf digits window fromBig fromLittle every payloadsBelow spareBitsZero readCorrection
+unfolding isQuery parts sparesZero isAscending spareZero unpack bitsOf digits window fromBig fromLittle every payloadsBelow spareBitsZero readCorrection
 kept-order = (refl, refl, refl, refl, refl, refl, refl, refl)

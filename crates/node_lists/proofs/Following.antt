@@ -27,11 +27,11 @@ use Rattle.idpf.specs.Share.{shareCauses}
 use Rattle.idpf.proofs.ShareOutcome.{outcome-number, outcome-refused, outcome-accepted}
 use Rattle.parents.specs.Parents.{isLast, lastPrefixes, parent, parentMissing}
 use Rattle.parents.proofs.Members.{missing-told}
-use Rattle.node_lists.specs.ShareKept.{KeptLent, keptNumber, keptOutcome, nodesAfter}
+use Rattle.node_lists.specs.ShareKept.{KeptLent, keptOutcome, nodesAfter}
 use Rattle.node_lists.specs.Sessions.{Session, call, walked, Reached, at-roots, after}
 use Rattle.node_lists.proofs.Overlaid.{as-long}
 use Rattle.node_lists.proofs.RootsOutcome.{roots-one-each}
-use Rattle.node_lists.proofs.KeptOutcome.{kept-number, kept-refused, nodes-refused, kept-ready, kept-accepted, nodes-as-many}
+use Rattle.node_lists.proofs.KeptOutcome.{keptNumber, kept-number, kept-refused, nodes-refused, kept-ready, kept-accepted, nodes-as-many}
 use Rattle.node_lists.proofs.Chain.{query-last, reports, seeds-count, reached-stands, bytes-walked}
 
 -- ---- the causes of both calls
@@ -79,7 +79,6 @@ module _ (s : Session) (last query : List ℕ) (nodes : List Node) (area : List 
 
   same-number : isLast (s .n) last ≡ true → reports s * length (lastPrefixes last) ≤ length nodes → reports s * length (prefixesOf query) ≤ length nodes
       → parentMissing last query ≡ false → keptNumber kept ≡ numberDue (shareCauses (s .n) (s .expander) (s .seeds) (s .shares) query (length area))
-  unfolding keptNumber
   same-number l before now found =
       rw (
         wrong-shares s,

@@ -13,6 +13,7 @@ use Rattle.places.specs.Places.{overlay}
 use Rattle.places.proofs.Lists.{and-left, and-right}
 use Rattle.places.proofs.Places.{overlay-nil, overlay-length}
 use Rattle.calls.specs.Bounds.{mostBits, mostReports}
+use Rattle.calls.specs.Causes.{numberDue}
 use Rattle.calls.specs.Outcome.{Outcome, accepted}
 use Rattle.calls.proofs.Decisions.{neither, bounds}
 use Rattle.calls.proofs.Judged.{Clear, judged-due, judged-refused, judged-accepted, judged-clear}
@@ -31,24 +32,28 @@ use Rattle.tree.proofs.Lengths.{totals-length}
 use Rattle.parents.specs.Parents.{isLast, lastPrefixes, parentMissing}
 use Rattle.parents.proofs.Last.{prefixes-length}
 use Rattle.node_lists.specs.NodeList.{shareCount, newNodes, keptShare}
-use Rattle.node_lists.specs.ShareKept.{KeptLent, keptCauses, causesOf, keptNumber, keptOutcome, nodesAfter}
+use Rattle.node_lists.specs.ShareKept.{KeptLent, keptCauses, causesOf, keptOutcome, nodesAfter}
 use Rattle.node_lists.proofs.ByReport.{by-report-length}
 use Rattle.node_lists.proofs.Overlaid.{overlay-spare}
 
 -- ---- the number, and a refusal
 
 module _ (s : KeptLent) where
-  pub kept-number : keptOutcome s .number ≡ keptNumber s
-  unfolding keptOutcome keptNumber
+  -- the number that is due is the outcome's
+  abbrev pub keptNumber : ℕ
+  keptNumber = numberDue (causesOf s)
+
+  pub kept-number : keptOutcome s .number ≡ keptNumber
+  unfolding keptOutcome
   kept-number = judged-due (causesOf s) _
 
-  pub kept-refused : keptNumber s ≢ 0 → keptOutcome s .written ≡ []
-  unfolding keptOutcome keptNumber
+  pub kept-refused : keptNumber ≢ 0 → keptOutcome s .written ≡ []
+  unfolding keptOutcome
   kept-refused h = judged-refused (causesOf s) _ (λ z. h (sym (judged-due (causesOf s) _) ∙ z))
 
-  pub nodes-refused : keptNumber s ≢ 0 → nodesAfter s ≡ s .nodes
+  pub nodes-refused : keptNumber ≢ 0 → nodesAfter s ≡ s .nodes
   unfolding nodesAfter
-  nodes-refused h = rw (ne-eqb (keptNumber s) 0 h) (overlay-nil (s .nodes))
+  nodes-refused h = rw (ne-eqb (keptOutcome s .number) 0 (λ z. h (sym kept-number ∙ z))) (overlay-nil (s .nodes))
 
 -- ---- what follows where no cause applies
 
@@ -130,7 +135,7 @@ module _ (s : KeptLent) where
     unfolding nodesAfter
     nodes-accepted h =
         let f : Expander → List Node = λ e. newNodes (s .n) (s .shares) (s .last) (s .nodes) e (s .query) in
-        rw (eq-eqb (keptNumber s) 0 (sym (kept-number s) ∙ h)) (ap (λ (o : Choice). overlay (under o f) (s .nodes)) c)
+        rw (eq-eqb (keptOutcome s .number) 0 h) (ap (λ (o : Choice). overlay (under o f) (s .nodes)) c)
 
 -- as many new nodes as reports × prefixes
 pub new-nodes-length : (n : ℕ) (shares last : List ℕ) (nodes : List Node) (x : Expander) (query : List ℕ)

@@ -19,7 +19,7 @@ fillingFirst seeds count =
 unfoldable pub rootNode : Bool → List ℕ → Filling → Node
 rootNode b seeds at = record { seed = window 16 (16 * at .next) seeds; bit = b }
 
--- the turn after another
+-- the turn after another; there are at most 65,535 roots, and no place is above that
 unfoldable pub fillingNext : Filling → Filling
 fillingNext at = record { number = at .number; left = at .left - 1; next = cond (ltb (at .next) 65535) (suc (at .next)) 0 }
 

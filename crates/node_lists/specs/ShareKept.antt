@@ -7,7 +7,7 @@ use lib.ListN.{length}
 use lib.Dec.{eqb, ltb}
 use Rattle.places.specs.Places.{overlay}
 use Rattle.calls.specs.Bounds.{lengthCause, expanderCause, reportsCause, spaceCause}
-use Rattle.calls.specs.Causes.{Cause, cause, numberDue}
+use Rattle.calls.specs.Causes.{Cause, cause}
 use Rattle.calls.specs.Outcome.{Outcome, judged}
 use Rattle.calls.specs.declared.Reply.{Reply}
 use Rattle.expander.specs.Expander.{choiceOf, under}
@@ -56,12 +56,9 @@ keptCauses n e shares last query count room =
     ∷ []
 
 module _ (s : KeptLent) where
-  -- the causes of this call, and the number that is due
+  -- the causes of this call
   abbrev pub causesOf : List Cause
   causesOf = keptCauses (s .n) (s .expander) (s .shares) (s .last) (s .query) (length (s .nodes)) (length (s .area))
-
-  unfoldable pub keptNumber : ℕ
-  keptNumber = numberDue causesOf
 
   -- the outcome: where no cause applies, the share
   unfoldable pub keptOutcome : Outcome
@@ -70,7 +67,7 @@ module _ (s : KeptLent) where
   -- the lent nodes at exit: where no cause applies, the new ones stand in the place of as many, and spare ones are as they were
   unfoldable pub nodesAfter : List Node
   nodesAfter =
-      overlay (cond (eqb keptNumber 0) (under (choiceOf (s .expander)) (λ e. newNodes (s .n) (s .shares) (s .last) (s .nodes) e (s .query))) []) (s .nodes)
+      overlay (cond (eqb (keptOutcome .number) 0) (under (choiceOf (s .expander)) (λ e. newNodes (s .n) (s .shares) (s .last) (s .nodes) e (s .query))) []) (s .nodes)
 
 -- What is returned, and the lent space and nodes at exit.
 pub record KeptExit : Type 0 where

@@ -85,13 +85,16 @@ fn query_cause(n: u64, reports: usize, last: &[u8], query: &[u8], count: usize, 
     if !query::is_query(n, query) {
         return 9;
     }
-    if too_few_nodes(reports, last, query, count) {
+    let few = too_few_nodes(reports, last, query, count);
+    let missing = parents::parent_missing(last, query);
+    let short = room < 8 * query::prefix_count(query);
+    if few {
         return 13;
     }
-    if parents::parent_missing(last, query) {
+    if missing {
         return 14;
     }
-    if room < 8 * query::prefix_count(query) {
+    if short {
         return 11;
     }
     0
