@@ -90,7 +90,7 @@ extern "C" {
 #endif
 
 // The version of this header and of the library beside it.
-#define TALLY_VERSION "0.4.0"
+#define TALLY_VERSION "0.4.1"
 
 // ---- numbers
 

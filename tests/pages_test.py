@@ -111,7 +111,7 @@ def main():
     for path in sorted(glob.glob("docs/*.md") + glob.glob("docs/landings/*.md") + ["CHANGELOG.md"]):
         if path not in led:
             sys.exit("pages_test: the README does not lead to %s" % path)
-    for path in sorted(led | links("docs/SERVERS.md") | links("docs/WEIGHTS.md") | links("docs/KEPT.md") | links("docs/EXAM.md") | links("CHANGELOG.md")):
+    for path in sorted(led | links("docs/SERVERS.md") | links("docs/WEIGHTS.md") | links("docs/KEPT.md") | links("docs/EXAM.md") | links("docs/AES.md") | links("CHANGELOG.md")):
         if not os.path.exists(path):
             sys.exit("pages_test: a link leads to %s, which is not there" % path)
 

@@ -2,6 +2,11 @@
 
 use crate::tables::{RCON, SBOX};
 
+fn xtimes(x: u8) -> u8 {
+    let added = if x < 128 { 0x00 } else { 0x1b };
+    (x << 1) ^ added
+}
+
 #[derive(Clone, Copy)]
 struct Word {
     bits: u32,
@@ -61,12 +66,13 @@ impl Word {
     }
 
     fn doubled(self) -> Word {
-        let bits = self.bits;
-        let low = bits & 0x7f7f7f7f;
-        let top = (bits / 128) & 0x01010101;
-        Word {
-            bits: (2 * low) ^ (27 * top),
-        }
+        let bytes = self.store();
+        Word::load([
+            xtimes(bytes[0]),
+            xtimes(bytes[1]),
+            xtimes(bytes[2]),
+            xtimes(bytes[3]),
+        ])
     }
 
     fn mix_column(self) -> Word {
@@ -140,6 +146,23 @@ impl State {
         self
     }
 
+    fn begin(block: [u8; 16], key: State) -> State {
+        State::load(block).add_round_key(key)
+    }
+
+    fn round(mut self, table: &[u8; 256], key: State) -> State {
+        self = self.shift_rows();
+        self = self.sub_bytes(table);
+        self = self.mix_columns();
+        self.add_round_key(key)
+    }
+
+    fn last_round(mut self, table: &[u8; 256], key: State) -> State {
+        self = self.shift_rows();
+        self = self.sub_bytes(table);
+        self.add_round_key(key)
+    }
+
     fn next_round_key(mut self, table: &[u8; 256], i: usize) -> State {
         let temp = self
             .w3
@@ -157,41 +180,29 @@ impl State {
 pub fn encrypt(key: [u8; 16], block: [u8; 16]) -> [u8; 16] {
     let table = &SBOX;
     let mut k = State::load(key);
-    let mut s = State::load(block).add_round_key(k);
+    let mut s = State::begin(block, k);
     for i in 0..9 {
         k = k.next_round_key(table, i);
-        s = s
-            .sub_bytes(table)
-            .shift_rows()
-            .mix_columns()
-            .add_round_key(k);
+        s = s.round(table, k);
     }
     k = k.next_round_key(table, 9);
-    s.sub_bytes(table).shift_rows().add_round_key(k).store()
+    s.last_round(table, k).store()
 }
 
 /// Two blocks with one key schedule.
 pub fn encrypt_two(key: [u8; 16], first: [u8; 16], second: [u8; 16]) -> [[u8; 16]; 2] {
     let table = &SBOX;
     let mut k = State::load(key);
-    let mut s = State::load(first).add_round_key(k);
-    let mut u = State::load(second).add_round_key(k);
+    let mut s = State::begin(first, k);
+    let mut u = State::begin(second, k);
     for i in 0..9 {
         k = k.next_round_key(table, i);
-        s = s
-            .sub_bytes(table)
-            .shift_rows()
-            .mix_columns()
-            .add_round_key(k);
-        u = u
-            .sub_bytes(table)
-            .shift_rows()
-            .mix_columns()
-            .add_round_key(k);
+        s = s.round(table, k);
+        u = u.round(table, k);
     }
     k = k.next_round_key(table, 9);
     [
-        s.sub_bytes(table).shift_rows().add_round_key(k).store(),
-        u.sub_bytes(table).shift_rows().add_round_key(k).store(),
+        s.last_round(table, k).store(),
+        u.last_round(table, k).store(),
     ]
 }

@@ -15,10 +15,6 @@ byte x = omega arith
 pub packed : {a b c d : ℕ} → a < 256 → b < 256 → c < 256 → d < 256 → fourBytes (a + 256 * b + 65536 * c + 16777216 * d) ≡ a ∷ b ∷ c ∷ d ∷ []
 packed {a} {b} {c} {d} ha hb hc hd = cons4 (omega arith) (omega arith) (omega arith) (omega arith)
 
--- four bytes by their steps of 2 ^ 8, and by their weights
-pub nested : (a b c d : ℕ) → ((d * 2 ^ 8 + c) * 2 ^ 8 + b) * 2 ^ 8 + a ≡ a + 256 * b + 65536 * c + 16777216 * d
-nested a b c d = omega arith
-
 -- three divisions by 256, one after the other
 chain : (s a b c : ℕ) {x p q : ℕ} → p * 256 + a ≡ x → q * 256 + b ≡ p → s * 256 + c ≡ q → ((s * 2 ^ 8 + c) * 2 ^ 8 + b) * 2 ^ 8 + a ≡ x
 chain s a b c e f g = omega arith

@@ -107,24 +107,24 @@ impl State {
         State::load(block).add_round_key(key)
     }
 
-    // A round before the last.
+    // A round before the last. ShiftRows goes before SubBytes, with which it commutes (section 5.3.5).
     pub(crate) fn round(mut self, table: &[u8; 256], key: State) -> State
         requires { ⌜ now table ≡ sBoxTable ⌝ }
         ensures { λ r. ⌜ bytesOf r ≡ round (bytesOf self) (bytesOf key) ⌝ }
     {
-        self = self.sub_bytes(table);
         self = self.shift_rows();
+        self = self.sub_bytes(table);
         self = self.mix_columns();
         self.add_round_key(key)
     }
 
-    // The last round, which has no MixColumns.
+    // The last round, which has no MixColumns; its first two steps are exchanged likewise.
     pub(crate) fn last_round(mut self, table: &[u8; 256], key: State) -> State
         requires { ⌜ now table ≡ sBoxTable ⌝ }
         ensures { λ r. ⌜ bytesOf r ≡ lastRound (bytesOf self) (bytesOf key) ⌝ }
     {
-        self = self.sub_bytes(table);
         self = self.shift_rows();
+        self = self.sub_bytes(table);
         self.add_round_key(key)
     }
 

@@ -2,10 +2,11 @@
 ghost use mathlib.Core.Path.{_≡_};
 ghost use mathlib.Core.List.{[], _∷_, map};
 ghost use Prim.Native.Nat.{_+_, _<_};
-ghost use Rattle.gf256.specs.Field.{_·_};
+ghost use Rattle.gf256.specs.Field.{tabulate, _·_};
 ghost use Rattle.aes.specs.Fips197.{sBoxTable, _‼_, sumWord, mixColumn, rotWord, subWord, rcon};
 ghost use Rattle.aes.specs.StateLayout.{wordOf};
 use crate::sbox::sub;
+use gf256::xtimes;
 
 // The first bytes of the ten round constants.
 const RCON: [u8; 10] = [0x01, 0x02, 0x04, 0x08, 0x10, 0x20, 0x40, 0x80, 0x1b, 0x36];
@@ -15,6 +16,18 @@ fn wide(x: u8) -> u32
     ensures { λ r. ⌜ (r ≡ x) × (r < 256) ⌝ }
 {
     x as u32
+}
+
+// Twice each of 4 bytes in GF(2^8).
+fn doubles(bytes: [u8; 4]) -> [u8; 4]
+    ensures { λ r. ⌜ r ≡ tabulate 4 (λ i. 2 · (bytes ‼ i)) ⌝ }
+{
+    [
+        xtimes(bytes[0]),
+        xtimes(bytes[1]),
+        xtimes(bytes[2]),
+        xtimes(bytes[3]),
+    ]
 }
 
 // Four bytes as one number, that of row 0 lowest.
@@ -101,16 +114,11 @@ impl Word {
         Word::load([a[0], b[1], c[2], d[3]])
     }
 
-    // Twice each byte in GF(2^8): the low seven bits go one place up, and 1b is added where the top bit is set.
+    // Twice each byte in GF(2^8).
     fn doubled(self) -> Word
         ensures { λ r. ⌜ wordOf r ≡ map (λ x. 2 · x) (wordOf self) ⌝ }
     {
-        let bits = self.bits;
-        let low = bits & 0x7f7f7f7f;
-        let top = (bits / 128) & 0x01010101;
-        Word {
-            bits: (2 * low) ^ (27 * top),
-        }
+        Word::load(doubles(self.store()))
     }
 
     // A column times the fixed matrix of MixColumns.

@@ -1,33 +1,25 @@
--- Doubling by shifting and reducing, and tripling, are products in GF(2^8), by a test of all 256 bytes.
+-- Doubling by a shift, with 1b added where the top bit is set, and tripling are products in GF(2^8), by a test of all 256 bytes.
 use mathlib.Core.Path.{_≡_, ap}
 use mathlib.Core.Bool.{Bool}
-use Prim.Native.Nat.{ℕ, _*_, _/_, _^_, _<_}
-use native.Mathlib.Omega.{arith}
-use lib.Bits.{bitAnd, and-le-r, xor-lt}
+use Prim.Native.Nat.{ℕ, _*_, _/_, _%_, _<_}
 use lib.Dec.{eqb, eqb→eq}
 use Rattle.gf256.specs.Field.{_⊕_, _·_}
 use Rattle.gf256.proofs.Computes.{computes}
 use Rattle.gf256.proofs.Below.{below}
 
--- doubling byte by byte, where m has the low seven bits of each byte and n the lowest
-abbrev pub doubling : ℕ → ℕ → ℕ → ℕ
-doubling m n x = 2 * bitAnd x m ⊕ 27 * bitAnd (x / 128) n
+-- a byte shifted by one place, and 1b times its top bit
+abbrev pub doubling : ℕ → ℕ
+doubling x = x * 2 % 256 ⊕ x / 128 * 0x1b
 
 isDouble : ℕ → Bool
-isDouble x = eqb (doubling 127 1 x) (2 · x)
+isDouble x = eqb (doubling x) (2 · x)
 
 isTriple : ℕ → Bool
 isTriple x = eqb (2 · x ⊕ x) (3 · x)
 
-pub double-byte : (x : ℕ) → x < 256 → doubling 127 1 x ≡ 2 · x
+pub double-byte : (x : ℕ) → x < 256 → doubling x ≡ 2 · x
 unfolding isDouble computes
-double-byte x h = eqb→eq (doubling 127 1 x) (2 · x) (below isDouble 256 tt x h)
-
-pub doubling-lt : (x : ℕ) → doubling 127 1 x < 2 ^ 8
-doubling-lt x =
-    let l = and-le-r x 127 in
-    let h = and-le-r (x / 128) 1 in
-    xor-lt 8 (2 * bitAnd x 127) (27 * bitAnd (x / 128) 1) (omega (arith, l)) (omega (arith, h))
+double-byte x h = eqb→eq (doubling x) (2 · x) (below isDouble 256 tt x h)
 
 tripled : (x : ℕ) → x < 256 → 2 · x ⊕ x ≡ 3 · x
 unfolding isTriple computes
