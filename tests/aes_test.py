@@ -135,7 +135,7 @@ def quoted(text):
 
 
 def doublings(text):
-    """The worked example of section 4.2, and the bytes at which edits go wrong."""
+    """The worked example of section 4.2, and the names of the edits."""
     rows = re.findall(r"^\| \{(..)\} \| [01]{8} \| (clear|set) \| \{(..)\} \| \{(..)\} \| \{(..)\} \|", text, re.M)
     if [row[0] for row in rows] != ["57", "ae", "47", "8e"]:
         fail("%s does not work the example of section 4.2" % PAGE)

@@ -307,7 +307,7 @@ static bool all_have(const row *at, const build *builds, size_t count)
 {
     for (size_t b = 0; at->run == run_two && b < count; b++)
         if (!has_two(&builds[b])) {
-            fprintf(stderr, "%s: left out, since %s has no function of its own for it\n", at->title, builds[b].name);
+            fprintf(stderr, "%s: left out, since %s has no function of its own that gives the blocks of tally_block\n", at->title, builds[b].name);
             return false;
         }
     return true;
