@@ -107,7 +107,7 @@ impl State {
         State::load(block).add_round_key(key)
     }
 
-    // A round before the last. ShiftRows goes before SubBytes, with which it commutes (section 5.3.5).
+    // A round before the last. ShiftRows goes before SubBytes, with which it commutes.
     pub(crate) fn round(mut self, table: &[u8; 256], key: State) -> State
         requires { ⌜ now table ≡ sBoxTable ⌝ }
         ensures { λ r. ⌜ bytesOf r ≡ round (bytesOf self) (bytesOf key) ⌝ }
