@@ -1,8 +1,11 @@
 //! Ways to a block of expander 1 in Rust, and work that can be done over each of them.
 
 use crate::hardware::Hardware;
+use crate::same_aes::SameCode;
 use crate::timing::{Column, Subject};
-use crate::{plain_aes, same_aes};
+use crate::word_aes::DoubledAtOnce;
+use crate::words::Doubling;
+use crate::{plain_aes, words};
 
 pub type Seed = [u8; 16];
 
@@ -17,19 +20,15 @@ pub fn counter(j: u64) -> Seed {
     (j as u128).to_be_bytes()
 }
 
-/// AES with the structs and steps of the proved code.
-#[derive(Clone, Copy)]
-pub struct SameCode;
-
-impl Aes for SameCode {
+impl<D: Doubling> Aes for D {
     #[inline(never)]
     fn block(self, seed: &Seed, j: u64) -> Seed {
-        same_aes::encrypt(*seed, counter(j))
+        words::encrypt::<D>(*seed, counter(j))
     }
 
     #[inline(never)]
     fn two_blocks(self, seed: &Seed, i: u64, j: u64) -> [Seed; 2] {
-        same_aes::encrypt_two(*seed, counter(i), counter(j))
+        words::encrypt_two::<D>(*seed, counter(i), counter(j))
     }
 }
 
@@ -55,10 +54,13 @@ pub trait Work: Copy {
     fn run<A: Aes>(self, aes: A, calls: usize) -> Self::Output;
 }
 
-/// The subjects that do some work in plain Rust: over the same AES, over the byte table, and over AES-NI where the processor has it.
+/// The subjects that do some work in plain Rust: over the same AES, over words doubled at once, over the byte table, and over AES-NI where the processor has it.
 pub fn over_each<'a, W: Work + 'a>(way: &'static str, work: W) -> Vec<Subject<'a, W::Output>> {
     let mut subjects = vec![
         Subject::new(way, Column::SameCode, move |c| work.run(SameCode, c)),
+        Subject::new(way, Column::DoubledAtOnce, move |c| {
+            work.run(DoubledAtOnce, c)
+        }),
         Subject::new(way, Column::ByteTable, move |c| work.run(ByteTable, c)),
     ];
     if let Some(hardware) = Hardware::found() {
@@ -72,6 +74,6 @@ pub fn over_each<'a, W: Work + 'a>(way: &'static str, work: W) -> Vec<Subject<'a
 pub fn quickest<W: Work>(work: W, calls: usize) -> W::Output {
     match Hardware::found() {
         Some(hardware) => work.run(hardware, calls),
-        None => work.run(SameCode, calls),
+        None => work.run(DoubledAtOnce, calls),
     }
 }

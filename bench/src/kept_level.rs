@@ -1,8 +1,9 @@
 //! The measure of one level: a server's share from kept nodes, beside the share from the root.
 
-use crate::aes::{over_each, Aes, SameCode, Seed, Work};
+use crate::aes::{over_each, Aes, Seed, Work};
 use crate::blocks_and_keys::string;
 use crate::plain_kept::{self, Node};
+use crate::same_aes::SameCode;
 use crate::timing::{Column, Measure, Subject, Timed};
 use crate::{plain_idpf, Plan};
 use std::hint::black_box;

@@ -19,6 +19,8 @@ mod searching;
 mod shares;
 mod tables;
 mod timing;
+mod word_aes;
+mod words;
 
 use timing::Timed;
 

@@ -32,8 +32,8 @@ fn cell(timed: &Timed, way: &str, column: Column) -> String {
 /// Prints the ratios of all measures, a line for each way.
 pub fn print_ratios(all: &[Timed]) {
     println!("\nTime of each subject, and in brackets the ratio: proved / subject.\n");
-    println!("| | proved | Rust, the same AES | Rust, byte-table AES | Rust, AES-NI | buffers cleared first |");
-    println!("|---|---|---|---|---|---|");
+    println!("| | proved | Rust, the same AES | Rust, words doubled at once | Rust, byte-table AES | Rust, AES-NI | buffers cleared first |");
+    println!("|---|---|---|---|---|---|---|");
     for timed in all {
         for way in ways(timed) {
             let title = match way {
@@ -45,8 +45,9 @@ pub fn print_ratios(all: &[Timed]) {
                 time => format!("{time}, no AES in it"),
             };
             println!(
-                "| {title} | {} | {plain} | {} | {} | {} |",
+                "| {title} | {} | {plain} | {} | {} | {} | {} |",
                 human(timed.times[0].ns),
+                cell(timed, way, Column::DoubledAtOnce),
                 cell(timed, way, Column::ByteTable),
                 hardware_cell(timed, way),
                 timed.cleared
@@ -58,12 +59,13 @@ pub fn print_ratios(all: &[Timed]) {
 /// Prints the ratios of what was measured with kept nodes, a line for each.
 pub fn print_kept(all: &[Timed]) {
     println!("\nWith kept nodes: time of each subject, and in brackets the ratio: proved with kept nodes / subject.\n");
-    println!("| | proved, kept nodes | proved, from the root | Rust with kept nodes, the same AES | byte-table AES | AES-NI |");
-    println!("|---|---|---|---|---|---|");
+    println!("| | proved, kept nodes | proved, from the root | Rust with kept nodes, the same AES | words doubled at once | byte-table AES | AES-NI |");
+    println!("|---|---|---|---|---|---|---|");
     for timed in all {
         let columns = [
             Column::FromRoot,
             Column::SameCode,
+            Column::DoubledAtOnce,
             Column::ByteTable,
             Column::Hardware,
         ];

@@ -1,7 +1,8 @@
 //! The measure of a whole search.
 
-use crate::aes::{over_each, Aes, SameCode, Seed, Work};
+use crate::aes::{over_each, Aes, Seed, Work};
 use crate::plain_share::{write_sums, Walk};
+use crate::same_aes::SameCode;
 use crate::timing::{Measure, Subject, Timed};
 use crate::Plan;
 use crate::{plain_idpf, plain_search};

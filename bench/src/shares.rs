@@ -1,9 +1,10 @@
 //! Measures of one server's share: a query of one prefix, and a query of both children of one parent.
 
-use crate::aes::{over_each, Aes, SameCode, Work};
+use crate::aes::{over_each, Aes, Work};
 use crate::blocks_and_keys::string;
 use crate::plain_idpf;
 use crate::plain_share::{self, Walk};
+use crate::same_aes::SameCode;
 use crate::timing::{Measure, Subject, Timed};
 use crate::Plan;
 use tally::{Expander, Reports, Server};

@@ -9,6 +9,7 @@ pub enum Column {
     Proved,
     FromRoot,
     SameCode,
+    DoubledAtOnce,
     ByteTable,
     Hardware,
     NoAes,
@@ -21,6 +22,7 @@ impl Column {
             Column::Proved => "proved",
             Column::FromRoot => "proved, from the root",
             Column::SameCode => "Rust, the same AES",
+            Column::DoubledAtOnce => "Rust, words doubled at once",
             Column::ByteTable => "Rust, byte-table AES",
             Column::Hardware => "Rust, AES-NI",
             Column::NoAes => "Rust, no AES in it",
@@ -116,7 +118,7 @@ impl Timed {
         for Time { way, column, ns } in &self.times {
             let ratio = self.times[0].ns / ns;
             println!(
-                "  {:<22}{way:<32}{:>10}{ratio:>8.2}",
+                "  {:<29}{way:<32}{:>10}{ratio:>8.2}",
                 column.name(),
                 human(*ns)
             );
