@@ -21,7 +21,7 @@
 //   zero. No call judges both 2 and 12: 12 stands in the place of 2 where the call is weighted.
 // - tally_respond refuses with 11 alone: where 10, 1, 2 or 3 applies, it writes the line that names the number, and returns 0 and that line's
 //   length.
-// - It takes stack for each bit of n: a search with n = 256 was measured at 194 KiB on x86-64, so a thread should have 256 KiB or more;
+// - It takes stack for each bit of n: a search with n = 256 was measured at 214 KiB on x86-64, so a thread should have 256 KiB or more;
 //   tally_exam and tally_respond ran in 128 KiB.
 // - The archive is not instrumented: a caller's sanitizer sees the caller's own reads and writes, and the library's where they go through a
 //   memcpy or memset that the sanitizer has replaced, but no others inside a call, and one that looks for bytes never written may take what a
@@ -62,12 +62,13 @@
 // - A seed has 16 bytes; several seeds stand one after the other, and so do several public shares, in the same order of reports.
 // - A public share is the control bits, two for each of n levels, left then right, level by level, packed in the fewest bytes, lowest bit first,
 //   spare bits zero; then for each level 16 bytes of seed correction and 8 of payload correction, a group number.
-// - A query is 2 bytes with the prefix length minus one, big-endian; 4 bytes with the count, big-endian; then the prefixes, strictly
-//   ascending.
+// - A query is 2 bytes with the prefix length minus one, big-endian; 4 bytes with how many prefixes there are, big-endian; then
+//   the prefixes, strictly ascending.
 // - A share is one group number for each prefix of its query, in order.
 // - A list of nodes has a node for each report and each prefix of the last query: report by report in the order of the public shares, and of each
 //   report the prefixes in the order of the query. At the roots, where the last query is no bytes, it has one node a report.
-// - A record is each query followed by its totals, one group number for each prefix.
+// - A record is the number of reports that the search was lent, 8 bytes, big-endian; then each query followed by its totals, one group number for
+//   each prefix. Beware: the number of reports is big-endian, each total little-endian; tally_report_count and tally_total read them.
 // - A list is the heavy strings, packed, ascending: those that at least t reports hold, or in a weighted search those of n bits all of whose
 //   prefixes of 1 to n bits have holders' weights that add to t or more.
 // - An exam text is a line `n t C e`, then C lines `string seed0 seed1`, and nothing after them: single spaces, and one newline at the end of
@@ -90,7 +91,7 @@ extern "C" {
 #endif
 
 // The version of this header and of the library beside it.
-#define TALLY_VERSION "0.4.1"
+#define TALLY_VERSION "0.5.0"
 
 // ---- numbers
 
@@ -220,12 +221,36 @@ static inline uint8_t *tally_empty(void)
 // A share, or the totals, for a query of count prefixes.
 #define TALLY_SHARE_LENGTH(count) (8 * (size_t)(count))
 
+// The heading of a record, that is what stands before its first query: the number of reports, big-endian.
+#define TALLY_HEADING_LENGTH 8
+
 // The first query of every search, `0` and `1`, as the initializer of an array of 8 bytes.
 #define TALLY_FIRST_QUERY {0x00, 0x00, 0x00, 0x00, 0x00, 0x02, 0x00, 0x80}
 
 // Space that is enough for the answer to every exam text, and for its whole output: 64 lines of k + 4 bytes for each prefix length k from 1
 // to 32, and 32 heavy strings in lines of 39 bytes.
 #define TALLY_EXAM_SPACE 43232
+
+// ---- reading what was written: plain C in this header, and no part of the proved library
+
+// The number of reports of a record: its first 8 bytes, big-endian. Nothing is checked: where the number is above TALLY_REPORTS_MOST, the bytes
+// are no record.
+static inline uint64_t tally_report_count(const uint8_t *record)
+{
+    uint64_t number = 0;
+    for (size_t i = 0; i < TALLY_HEADING_LENGTH; i++)
+        number = number << 8 | record[i];
+    return number;
+}
+
+// A total of a record, or another group number, such as one of a share: 8 bytes, little-endian.
+static inline uint64_t tally_total(const uint8_t *bytes)
+{
+    uint64_t number = 0;
+    for (size_t i = TALLY_NUMBER_LENGTH; 0 < i; i--)
+        number = number << 8 | bytes[i - 1];
+    return number;
+}
 
 // ---- nodes
 
@@ -354,14 +379,14 @@ tally_combine_reply tally_combine(uint64_t n, bool weighted, uint64_t t,
                                   const uint8_t *share1, size_t share1_length,
                                   uint8_t *out, size_t out_length);
 
-// Space that is enough for the record of a search over this many honest reports: for each prefix length k from 1 to n, a heading of 6 bytes
-// and TALLY_PACKED_LENGTH(k) + 8 bytes for each prefix, of which there are 2 at length 1 and then at most min(2^k, 2 * w), and no heading where
-// there are none. Here w is the most prefixes of one length that can be kept: floor(reports / t), and where weighted is true
-// floor(reports / ceil(t / 32767)), since a weight is at most 32,767 and a kept prefix so has at least ceil(t / 32767) holders. It is 0 where n,
-// t or the number of reports is outside its bounds, which the search refuses; within them it is never below 24, so that 0 means outside. The
-// bounds of t are those of 2, or where weighted those of 12.
+// Space that is enough for the record of a search over this many honest reports: TALLY_HEADING_LENGTH bytes for the number of reports; and for
+// each prefix length k from 1 to n, 6 bytes for the two fields of a query and TALLY_PACKED_LENGTH(k) + 8 bytes for each prefix, of which there
+// are 2 at length 1 and then at most min(2^k, 2 * w), and no bytes where there are none. Here w is the most prefixes of one length that can be
+// kept: floor(reports / t), and where weighted is true floor(reports / ceil(t / 32767)), since a weight is at most 32,767 and a kept prefix so
+// has at least ceil(t / 32767) holders. It is 0 where n, t or the number of reports is outside its bounds, which the search refuses; within them
+// it is never below 32, so that 0 means outside. The bounds of t are those of 2, or where weighted those of 12.
 // It is a proved function of the library, as is tally_list_space: neither is lent anything, and neither refuses. No arguments overflow: with
-// n = 256, 65,535 reports and t = 1, or where weighted any t up to 32,767, come the largest results, 803,460,126 for the record and 2,097,120
+// n = 256, 65,535 reports and t = 1, or where weighted any t up to 32,767, come the largest results, 803,460,134 for the record and 2,097,120
 // for the list, which fit a size_t of 32 bits. Both are calls and no constant expressions, so the two areas are allocated.
 uint64_t tally_record_space(uint64_t n, bool weighted, uint64_t t, uint64_t reports);
 
@@ -373,8 +398,9 @@ uint64_t tally_list_space(uint64_t n, bool weighted, uint64_t t, uint64_t report
 // Does the whole search: asks the first query, and then what combining answers, weighted or not, until the list is found or nothing is kept; the
 // list is then empty.
 // Reads: each server's seeds, 16 bytes a report, and its public shares, TALLY_PUBLIC_SHARE_LENGTH(n) bytes a report.
-// Writes: the record, each query followed by its totals, into record; the list into list. tally_record_space(n, weighted, t, reports) and
-// tally_list_space(n, weighted, t, reports) are enough for honest reports; ill-formed ones may need more.
+// Writes: the record into record, that is the number of reports lent, 8 bytes, big-endian, also where there are none, and then each query
+// followed by its totals; the list into list. tally_record_space(n, weighted, t, reports) and tally_list_space(n, weighted, t, reports) are
+// enough for honest reports; ill-formed ones may need more.
 // Refuses with 1; 2, or where weighted 12; 3; 4, seeds or public shares of a server are not whole or disagree in count, or the servers' counts
 // differ; 5; 6; 7; 8; 11, and then makes every byte of the record area zero, while the list area is unchanged. With at least these two spaces 11
 // means that the reports are not all honest, that is, not all what tally_key was given and wrote for one string of n bits with this expander, and

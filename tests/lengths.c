@@ -1,5 +1,6 @@
 // For every string length: the lengths that tally.h gives as macros are those that the calls write and ask for, and for two strings that part at
-// their first bit, with t = 1, the space that the library names is what the search writes, byte for byte, weighted or not. The largest and the
+// their first bit, with t = 1, the space that the library names is what the search writes, byte for byte, weighted or not; the record begins with
+// the number of reports. tally_report_count and tally_total read the number of reports and the totals that a search writes. The largest and the
 // least space are those that tally.h names.
 #include <stdio.h>
 #include <stdlib.h>
@@ -7,8 +8,9 @@
 #include "tally.h"
 
 #define REPORTS 2
+#define READ_MOST 300
 
-static uint8_t record[TALLY_BITS_MOST * (TALLY_QUERY_LENGTH(TALLY_BITS_MOST, 4) + TALLY_SHARE_LENGTH(4))];
+static uint8_t record[TALLY_HEADING_LENGTH + TALLY_BITS_MOST * (TALLY_QUERY_LENGTH(TALLY_BITS_MOST, 4) + TALLY_SHARE_LENGTH(4))];
 
 static void same(const char *what, uint64_t n, uint64_t macro, uint64_t call)
 {
@@ -38,8 +40,9 @@ static void key(uint64_t n, uint8_t bits, uint8_t *public_share, size_t room)
 static void search(uint64_t n)
 {
     uint8_t public_shares[REPORTS * TALLY_PUBLIC_SHARE_LENGTH(TALLY_BITS_MOST) + 1], seeds[REPORTS * TALLY_SEED_LENGTH] = {0};
+    const uint8_t first[] = TALLY_FIRST_QUERY;
     uint8_t query[TALLY_QUERY_LENGTH(TALLY_BITS_MOST, 4) + 1] = TALLY_FIRST_QUERY, out[sizeof query], share0[TALLY_SHARE_LENGTH(4) + 1], share1[sizeof share0];
-    size_t size = TALLY_PUBLIC_SHARE_LENGTH(n), query_length = TALLY_QUERY_LENGTH(1, 2), recorded = 0;
+    size_t size = TALLY_PUBLIC_SHARE_LENGTH(n), query_length = TALLY_QUERY_LENGTH(1, 2), recorded = TALLY_HEADING_LENGTH;
     key(n, 0x00, public_shares, sizeof public_shares);
     key(n, 0xff, public_shares + size, sizeof public_shares - size);
     for (uint64_t k = 1; k <= n; k++) {
@@ -67,23 +70,50 @@ static void search(uint64_t n)
                                          public_shares, REPORTS * size, record, (size_t)record_space, out, (size_t)list_space);
         same("the search in the named space", n, TALLY_OK, found.number);
         same("the record", n, recorded, found.record_length);
+        for (size_t i = 0; i < TALLY_HEADING_LENGTH; i++)
+            same("the number of reports, big-endian", n, i == TALLY_HEADING_LENGTH - 1 ? REPORTS : 0, record[i]);
+        same("the first query after it", n, 0, memcmp(record + TALLY_HEADING_LENGTH, first, sizeof first) != 0);
         same("tally_record_space", n, record_space, found.record_length);
         same("tally_list_space", n, list_space, found.list_length);
     }
 }
 
+// Searches that many reports of the string 1, and compares the number of reports and the two totals that the record is read to have.
+static void read_back(size_t reports)
+{
+    static uint8_t public_shares[READ_MOST * TALLY_PUBLIC_SHARE_LENGTH(1) + 1], seeds[READ_MOST * TALLY_SEED_LENGTH];
+    const size_t size = TALLY_PUBLIC_SHARE_LENGTH(1), space = (size_t)tally_record_space(1, TALLY_UNWEIGHTED, 1, reports);
+    uint8_t list[2];
+    for (size_t i = 0; i < reports; i++)
+        key(1, 0xff, public_shares + i * size, sizeof public_shares - i * size);
+    tally_found found = tally_search(1, TALLY_UNWEIGHTED, 1, TALLY_EXPANDER_CLASSROOM, seeds, reports * TALLY_SEED_LENGTH, public_shares, reports * size, seeds,
+                                     reports * TALLY_SEED_LENGTH, public_shares, reports * size, record, space, list, sizeof list);
+    const uint8_t *totals = record + TALLY_HEADING_LENGTH + TALLY_QUERY_LENGTH(1, 2);
+    same("a search of reports of one string", 1, TALLY_OK, found.number);
+    same("its record", 1, TALLY_HEADING_LENGTH + TALLY_QUERY_LENGTH(1, 2) + TALLY_SHARE_LENGTH(2), found.record_length);
+    same("tally_report_count", 1, reports, tally_report_count(record));
+    same("tally_total of 0", 1, 0, tally_total(totals));
+    same("tally_total of 1", 1, reports, tally_total(totals + TALLY_NUMBER_LENGTH));
+}
+
 int main(void)
 {
+    const size_t numbers[] = {0, 1, 256, READ_MOST};
+    for (size_t i = 0; i < sizeof numbers / sizeof *numbers; i++)
+        read_back(numbers[i]);
+    const uint8_t ends[] = {0, 0, 0, 0, 0xff, 0xff, 0xff, 0xff, 0, 0};
+    same("tally_total of p - 1, and no byte after it", 1, 1, tally_total(ends) == TALLY_GROUP_ORDER - 1);
+    same("tally_report_count of bytes that are no record", 1, 1, tally_report_count(ends + 2) == UINT64_C(0x0000ffffffff0000));
     for (uint64_t n = 1; n <= TALLY_BITS_MOST; n++)
         search(n);
     const uint64_t n = TALLY_BITS_MOST, most = TALLY_REPORTS_MOST;
-    same("the largest tally_record_space", n, 803460126, tally_record_space(n, TALLY_UNWEIGHTED, 1, most));
+    same("the largest tally_record_space", n, 803460134, tally_record_space(n, TALLY_UNWEIGHTED, 1, most));
     same("the largest tally_list_space", n, 2097120, tally_list_space(n, TALLY_UNWEIGHTED, 1, most));
-    same("the least tally_record_space", 1, 24, tally_record_space(1, TALLY_UNWEIGHTED, TALLY_THRESHOLD_MOST, 0));
+    same("the least tally_record_space", 1, 32, tally_record_space(1, TALLY_UNWEIGHTED, TALLY_THRESHOLD_MOST, 0));
     same("tally_list_space, t above the reports", n, 0, tally_list_space(n, TALLY_UNWEIGHTED, 2, 1));
-    same("the largest weighted tally_record_space", n, 803460126, tally_record_space(n, TALLY_WEIGHTED, TALLY_WEIGHT_MOST, most));
+    same("the largest weighted tally_record_space", n, 803460134, tally_record_space(n, TALLY_WEIGHTED, TALLY_WEIGHT_MOST, most));
     same("the largest weighted tally_list_space", n, 2097120, tally_list_space(n, TALLY_WEIGHTED, TALLY_WEIGHT_MOST, most));
-    same("the least weighted tally_record_space", 1, 24, tally_record_space(1, TALLY_WEIGHTED, TALLY_WEIGHTED_THRESHOLD_MOST, most));
+    same("the least weighted tally_record_space", 1, 32, tally_record_space(1, TALLY_WEIGHTED, TALLY_WEIGHTED_THRESHOLD_MOST, most));
     same("weighted tally_list_space, too few reports", n, 0, tally_list_space(n, TALLY_WEIGHTED, TALLY_WEIGHTED_THRESHOLD_MOST, most));
     return EXIT_SUCCESS;
 }

@@ -1,5 +1,5 @@
 #!/usr/bin/env python3
-"""Each line of a program that docs/SERVERS.md, docs/WEIGHTS.md and docs/KEPT.md quote stands in a program that the gate runs; each output that these, the README and docs/EXAM.md quote is that of
+"""Each line of a program that docs/SERVERS.md, docs/WEIGHTS.md, docs/KEPT.md and docs/COLLECTORS.md quote stands in a program that the gate runs, or in tally.h; each output that these, the README and docs/EXAM.md quote is that of
 a sheet, a key or a C example, and refusals are what the programs print; the pages say what examiners and candidates asked for; the README leads to every page of
 docs, and no link of these is broken."""
 import glob
@@ -13,6 +13,7 @@ PROGRAMS = {
     "docs/SERVERS.md": ({"c": ["examples/c/two_servers.c", "examples/c/split_server.c"], "rust": ["rust/examples/two_servers.rs"]}, 5),
     "docs/WEIGHTS.md": ({"c": ["examples/c/weights.c"]}, 3),
     "docs/KEPT.md": ({"c": ["examples/c/kept_nodes.c"], "rust": ["rust/examples/kept_nodes.rs"]}, 4),
+    "docs/COLLECTORS.md": ({"c": ["examples/c/report_count.c", "examples/c/two_servers.c", "include/tally.h"], "rust": ["rust/examples/report_count.rs"]}, 5),
 }
 
 # what a page has to say, once, in whatever lines
@@ -59,11 +60,24 @@ def quoted(page):
     """Texts and outputs that a page quotes, each the whole of a file."""
     files = {open(path, encoding="utf-8").read() for path in glob.glob("docs/sheets/*") + glob.glob("docs/keys/*") + glob.glob("examples/c/*.out")}
     blocks = [re.sub("^    ", "", block, flags=re.M) for block in re.findall(r"(?:^    .+\n)+", open(page, encoding="utf-8").read(), re.M)]
-    found = [block for block in blocks if re.match(r"control |[01]+ -?\d+\n|\d+ \d+ [01]+ ", block)]
+    found = [block for block in blocks if re.match(r"control |[01]+ -?\d+\n|\d+ \d+ [01]+ [0-9a-f]{32} |[0-9a-f]{16}  the ", block)]
     for block in found:
         if block not in files:
             sys.exit("pages_test: %s quotes what no sheet, key or example has: %s" % (page, block))
     return len(found)
+
+
+def records():
+    """Example D's record as docs/EXAM.md and docs/COLLECTORS.md state it, beside the pieces that an example prints of it."""
+    printed = "".join(re.findall(r"^([0-9a-f]{16})  ", open("examples/c/report_count.out", encoding="utf-8").read().split("56 bytes")[0], re.M))
+    worked = re.search(r"^## D$.*?^((?:    [0-9a-f]{2}(?: +[0-9a-f]{2})+\n)+)", open("docs/EXAM.md", encoding="utf-8").read(), re.M | re.S)
+    table = ""
+    for place, cell in re.findall(r"^\| (\d+) \| (`[^|]*) \|", open("docs/COLLECTORS.md", encoding="utf-8").read(), re.M):
+        if 2 * int(place) != len(table):
+            sys.exit("pages_test: docs/COLLECTORS.md has other bytes before byte %s" % place)
+        table += re.sub("[^0-9a-f]", "", cell)
+    if len(printed) != 2 * 56 or printed != "".join(worked[1].split()) or printed != table:
+        sys.exit("pages_test: a page states another record of example D than examples/c/report_count.out")
 
 
 def program_lines(page, programs, least):
@@ -94,7 +108,7 @@ def refusals(program, text):
 
 def main():
     exam, key = open("docs/EXAM.md", encoding="utf-8").read().split("\n## The key program\n")
-    for page, least in [("docs/EXAM.md", 6), ("README.md", 3), ("docs/WEIGHTS.md", 1), ("docs/KEPT.md", 1)]:
+    for page, least in [("docs/EXAM.md", 6), ("README.md", 3), ("docs/WEIGHTS.md", 1), ("docs/KEPT.md", 1), ("docs/COLLECTORS.md", 1)]:
         if quoted(page) < least:
             sys.exit("pages_test: %s quotes too little" % page)
     for program, text, least in [("target/bin/exam", exam, 13), ("target/bin/key", key, 8)]:
@@ -102,6 +116,7 @@ def main():
             sys.exit("pages_test: %s is not built" % program)
         if refusals(program, text) < least:
             sys.exit("pages_test: docs/EXAM.md names too few texts that %s refuses" % program)
+    records()
     for page, sentences in SAID.items():
         says(page, open(page, encoding="utf-8").read(), sentences)
     says("docs/EXAM.md before A", key.split("\n## A\n")[0], RULES)
@@ -111,7 +126,7 @@ def main():
     for path in sorted(glob.glob("docs/*.md") + glob.glob("docs/landings/*.md") + ["CHANGELOG.md"]):
         if path not in led:
             sys.exit("pages_test: the README does not lead to %s" % path)
-    for path in sorted(led | links("docs/SERVERS.md") | links("docs/WEIGHTS.md") | links("docs/KEPT.md") | links("docs/EXAM.md") | links("docs/AES.md") | links("CHANGELOG.md")):
+    for path in sorted(led | links("docs/SERVERS.md") | links("docs/WEIGHTS.md") | links("docs/KEPT.md") | links("docs/COLLECTORS.md") | links("docs/EXAM.md") | links("docs/AES.md") | links("CHANGELOG.md")):
         if not os.path.exists(path):
             sys.exit("pages_test: a link leads to %s, which is not there" % path)
 

@@ -17,7 +17,7 @@ static void same(const char *what, int64_t expected, int64_t found)
 static uint64_t refused(bool weighted, uint64_t t)
 {
     const uint8_t query[] = TALLY_FIRST_QUERY, share[TALLY_SHARE_LENGTH(2)] = {0};
-    uint8_t record[TALLY_QUERY_LENGTH(1, 2) + TALLY_SHARE_LENGTH(2)];
+    uint8_t record[TALLY_HEADING_LENGTH + TALLY_QUERY_LENGTH(1, 2) + TALLY_SHARE_LENGTH(2)];
     tally_found found = tally_search(1, weighted, t, TALLY_EXPANDER_AES, TALLY_EMPTY, 0, TALLY_EMPTY, 0, TALLY_EMPTY, 0, TALLY_EMPTY, 0, record, sizeof record,
                                      TALLY_EMPTY, 0);
     tally_combine_reply reply = tally_combine(1, weighted, t, query, sizeof query, share, sizeof share, share, sizeof share, TALLY_EMPTY, 0);

@@ -22,10 +22,10 @@
 #define REPORTS 100
 #define MOST_BUILDS 8
 
-// The lengths of a public share, and of the record and the list of a search.
+// The length of a public share, and the most that the record and the list of a search have.
 #define KEY_LENGTH TALLY_PUBLIC_SHARE_LENGTH(N)
 #define MOST_PREFIXES (2 * (REPORTS / T))
-#define RECORD_LENGTH (N * (TALLY_QUERY_LENGTH(N, MOST_PREFIXES) + TALLY_SHARE_LENGTH(MOST_PREFIXES)))
+#define RECORD_LENGTH (TALLY_HEADING_LENGTH + N * (TALLY_QUERY_LENGTH(N, MOST_PREFIXES) + TALLY_SHARE_LENGTH(MOST_PREFIXES)))
 #define LIST_LENGTH (REPORTS / T * TALLY_PACKED_LENGTH(N))
 
 // A build: its name, its calls, and two blocks under one key as the compiler passes them: by aes::encrypt_two, which is lent both blocks, or by
@@ -148,18 +148,31 @@ static size_t run_kept(const build *by, size_t calls, uint8_t *out)
     return TALLY_SHARE_LENGTH(2) + sizeof nodes;
 }
 
-// Whole searches of the same reports, into areas that are cleared before each.
+// How many bytes stand before the first query of a record: those of the number of reports, or none where the build is older than 0.5.0. The first
+// query is no number of reports, since it would be above 65,535.
+static size_t before_queries(const uint8_t *record)
+{
+    static const uint8_t first_query[] = TALLY_FIRST_QUERY;
+    return memcmp(record, first_query, sizeof first_query) == 0 ? 0 : TALLY_HEADING_LENGTH;
+}
+
+// Whole searches of the same reports, into areas that are cleared before each; the output is the record from its first query on, and the list.
 static size_t run_search(const build *by, size_t calls, uint8_t *out)
 {
+    tally_found found = {0};
+    if (calls == 0)
+        return 0;
     for (size_t j = 0; j < calls; j++) {
         memset(out, 0, RECORD_LENGTH + LIST_LENGTH);
-        tally_found found = by->search(N, TALLY_UNWEIGHTED, T, TALLY_EXPANDER_AES, seeds0, sizeof seeds0, public_shares, sizeof public_shares,
-                                       seeds1, sizeof seeds1, public_shares, sizeof public_shares, out, RECORD_LENGTH, out + RECORD_LENGTH,
-                                       LIST_LENGTH);
+        found = by->search(N, TALLY_UNWEIGHTED, T, TALLY_EXPANDER_AES, seeds0, sizeof seeds0, public_shares, sizeof public_shares, seeds1,
+                           sizeof seeds1, public_shares, sizeof public_shares, out, RECORD_LENGTH, out + RECORD_LENGTH, LIST_LENGTH);
         must_pass(by, found.number);
         must(found.list_length != 0, by->name, "the search found no string");
     }
-    return RECORD_LENGTH + LIST_LENGTH;
+    const size_t before = before_queries(out), queries = (size_t)found.record_length - before;
+    memmove(out, out + before, queries);
+    memmove(out + queries, out + RECORD_LENGTH, (size_t)found.list_length);
+    return queries + (size_t)found.list_length;
 }
 
 // The table. A round is far shorter than the time for which the system lets a program run, except that of a search.
@@ -252,6 +265,7 @@ static double now(void)
 static void run_round(const row *at, size_t calls, size_t lower, const build *builds, size_t count, double *best)
 {
     static uint8_t first[RECORD_LENGTH + LIST_LENGTH], other[sizeof first];
+    size_t first_length = 0;
     volatile uint8_t passed[lower + 1];
     passed[0] = 0;
     (void)passed[0];
@@ -262,7 +276,9 @@ static void run_round(const row *at, size_t calls, size_t lower, const build *bu
         double took = (now() - start) / (double)calls;
         if (took < best[b])
             best[b] = took;
-        if (memcmp(out, first, length) != 0) {
+        if (b == 0)
+            first_length = length;
+        if (length != first_length || memcmp(out, first, length) != 0) {
             printf("%s: the output of %s differs from that of %s\n", at->title, builds[b].name, builds[0].name);
             exit(EXIT_FAILURE);
         }

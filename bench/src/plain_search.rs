@@ -15,7 +15,8 @@ fn write_totals(shares: &[Vec<u8>; 2], out: &mut [u8]) {
     }
 }
 
-/// Record and list of a search that is accepted, written into their areas; their lengths. `write_share` writes a server's share for a query.
+/// Record and list of a search that is accepted, written into their areas; their lengths. The record begins with the number of reports.
+/// `write_share` writes a server's share for a query.
 pub fn search(
     settings: Settings,
     servers: [Reports; 2],
@@ -29,7 +30,13 @@ pub fn search(
         return None;
     }
     let mut query = vec![0, 0, 0, 0, 0, 2, 0, 128];
-    let mut used = 0;
+    let reports = (zero.seeds.len() as u64).to_be_bytes();
+    let Some(heading) = record.first_chunk_mut() else {
+        record.fill(0);
+        return None;
+    };
+    *heading = reports;
+    let mut used = reports.len();
     for length in 1..=n {
         let count = (query.len() - 6) / length.div_ceil(8);
         let totals_at = used + query.len();

@@ -37,7 +37,7 @@ typedef struct server {
 
 // What a collector has gathered: the record and the list.
 typedef struct collected {
-    uint8_t record[N * (TALLY_QUERY_LENGTH(N, MOST_PREFIXES) + TALLY_SHARE_LENGTH(MOST_PREFIXES))];
+    uint8_t record[TALLY_HEADING_LENGTH + N * (TALLY_QUERY_LENGTH(N, MOST_PREFIXES) + TALLY_SHARE_LENGTH(MOST_PREFIXES))];
     size_t record_length;
     uint8_t list[MOST_PREFIXES * TALLY_PACKED_LENGTH(N)];
     size_t list_length;
@@ -126,13 +126,12 @@ static void print_bits(const uint8_t *packed, size_t bits)
         putchar(packed[i / 8] >> (7 - i % 8) & 1 ? '1' : '0');
 }
 
-// Total i of a query, from 8 bytes, least significant first.
-static uint64_t total(const uint8_t *totals, size_t i)
+// Begins a record with the number of reports, most significant byte first.
+static void begin_record(collected *into, uint64_t reports)
 {
-    uint64_t number = 0;
-    for (size_t at = 8; 0 < at; at--)
-        number = number << 8 | totals[8 * i + at - 1];
-    return number;
+    for (int i = 0; i < TALLY_HEADING_LENGTH; i++)
+        into->record[i] = (uint8_t)(reports >> (8 * (TALLY_HEADING_LENGTH - 1 - i)));
+    into->record_length = TALLY_HEADING_LENGTH;
 }
 
 // Puts a query and its totals at the end of the record, and prints one line for each prefix.
@@ -145,7 +144,7 @@ static void note_level(collected *into, const uint8_t *query, size_t query_lengt
     into->record_length += TALLY_SHARE_LENGTH(count);
     for (size_t i = 0; i < count; i++) {
         print_bits(query + 6 + i * TALLY_PACKED_LENGTH(bits), bits);
-        printf(" %llu\n", (unsigned long long)total(totals, i));
+        printf(" %llu\n", (unsigned long long)tally_total(totals + i * TALLY_NUMBER_LENGTH));
     }
     printf("%d prefixes, %d nodes kept by each server\n", (int)count, (int)TALLY_NODES_COUNT(REPORTS, count));
 }
@@ -155,6 +154,7 @@ static void collect(server *zero, server *one, collected *into)
 {
     uint8_t query[TALLY_QUERY_LENGTH(N, MOST_PREFIXES)] = TALLY_FIRST_QUERY;
     size_t query_length = TALLY_QUERY_LENGTH(1, 2);
+    begin_record(into, REPORTS);
     for (;;) {
         uint8_t share0[TALLY_SHARE_LENGTH(MOST_PREFIXES)], share1[sizeof share0], totals[sizeof share0], out[sizeof query];
         tally_reply reply0 = answer(zero, query, query_length, share0, sizeof share0);

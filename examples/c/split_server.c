@@ -87,13 +87,10 @@ static size_t answer(const server *by, const uint8_t *query, size_t query_length
     return (size_t)sum.length;
 }
 
-// Total i, from 8 bytes, least significant first.
+// Total i of a query.
 static uint64_t total(const uint8_t *totals, size_t i)
 {
-    uint64_t number = 0;
-    for (size_t at = 8; 0 < at; at--)
-        number = number << 8 | totals[8 * i + at - 1];
-    return number;
+    return tally_total(totals + i * TALLY_NUMBER_LENGTH);
 }
 
 // The collector: asks level by level, and checks that the two totals of each pair of children add to their parent's.
@@ -136,11 +133,11 @@ int main(void)
     collect(&zero, &one);
     printf("the shares of 2 and of 3 reports add to the share of 5\n");
 
-    uint8_t record[TALLY_QUERY_LENGTH(1, 2) + TALLY_SHARE_LENGTH(2)];
+    uint8_t record[TALLY_HEADING_LENGTH + TALLY_QUERY_LENGTH(1, 2) + TALLY_SHARE_LENGTH(2)];
+    const uint8_t *totals = record + TALLY_HEADING_LENGTH + TALLY_QUERY_LENGTH(1, 2);
     tally_found found = tally_search(1, TALLY_UNWEIGHTED, 1, TALLY_EXPANDER_AES, TALLY_EMPTY, 0, TALLY_EMPTY, 0, TALLY_EMPTY, 0, TALLY_EMPTY, 0,
                                      record, sizeof record, TALLY_EMPTY, 0);
     must_pass("tally_search", found.number);
-    printf("no reports: totals %d and %d, %d heavy\n", (int)total(record + TALLY_QUERY_LENGTH(1, 2), 0),
-           (int)total(record + TALLY_QUERY_LENGTH(1, 2), 1), (int)found.list_length);
+    printf("no reports: totals %d and %d, %d heavy\n", (int)total(totals, 0), (int)total(totals, 1), (int)found.list_length);
     return EXIT_SUCCESS;
 }

@@ -85,20 +85,19 @@ static size_t answer(const server *by, const uint8_t *query, size_t query_length
     return (size_t)reply.length;
 }
 
-// A group number from 8 bytes, least significant first.
-static uint64_t read_number(const uint8_t *from)
-{
-    uint64_t number = 0;
-    for (int i = 7; 0 <= i; i--)
-        number = number << 8 | from[i];
-    return number;
-}
-
-// The same number as 8 bytes.
+// A group number as 8 bytes, least significant first.
 static void write_number(uint64_t number, uint8_t *to)
 {
     for (int i = 0; i < 8; i++)
         to[i] = (uint8_t)(number >> (8 * i));
+}
+
+// Begins a record with the number of reports, most significant byte first.
+static void begin_record(collected *into, uint64_t reports)
+{
+    for (int i = 0; i < TALLY_HEADING_LENGTH; i++)
+        into->record[i] = (uint8_t)(reports >> (8 * (TALLY_HEADING_LENGTH - 1 - i)));
+    into->record_length = TALLY_HEADING_LENGTH;
 }
 
 // The sum of two group numbers, modulo p.
@@ -127,7 +126,7 @@ static void note_level(collected *into, const uint8_t *query, size_t query_lengt
     memcpy(into->record + into->record_length, query, query_length);
     into->record_length += query_length;
     for (size_t i = 0; i < count; i++) {
-        uint64_t total = add(read_number(share0 + 8 * i), read_number(share1 + 8 * i));
+        uint64_t total = add(tally_total(share0 + 8 * i), tally_total(share1 + 8 * i));
         write_number(total, into->record + into->record_length);
         into->record_length += 8;
         print_bits(query + 6 + i * TALLY_PACKED_LENGTH(bits), bits);
@@ -140,7 +139,7 @@ static void collect(const server *zero, const server *one, collected *into)
 {
     uint8_t query[TALLY_QUERY_LENGTH(N, MOST_PREFIXES)] = TALLY_FIRST_QUERY;
     size_t query_length = TALLY_QUERY_LENGTH(1, 2);
-    into->record_length = 0;
+    begin_record(into, REPORTS);
     into->list_length = 0;
     for (;;) {
         uint8_t share0[TALLY_SHARE_LENGTH(MOST_PREFIXES)];

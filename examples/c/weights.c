@@ -55,15 +55,6 @@ static void report(size_t i)
     must_pass("tally_key", reply.number);
 }
 
-// Total i of a query, from 8 bytes, least significant first.
-static uint64_t total(const uint8_t *totals, size_t i)
-{
-    uint64_t number = 0;
-    for (size_t at = 8; 0 < at; at--)
-        number = number << 8 | totals[8 * i + at - 1];
-    return number;
-}
-
 // The bits of a packed string.
 static void print_bits(const uint8_t *packed, size_t bits)
 {
@@ -71,16 +62,16 @@ static void print_bits(const uint8_t *packed, size_t bits)
         putchar(packed[i / 8] >> (7 - i % 8) & 1 ? '1' : '0');
 }
 
-// The queries of a record with their totals, one line a prefix.
+// The queries of a record with their totals, one line a prefix; before them stands the number of reports.
 static void print_record(const uint8_t *record, size_t length)
 {
-    for (size_t at = 0; at < length;) {
+    for (size_t at = TALLY_HEADING_LENGTH; at < length;) {
         const size_t bits = ((size_t)record[at] << 8 | record[at + 1]) + 1;
         const size_t count = (size_t)record[at + 2] << 24 | (size_t)record[at + 3] << 16 | (size_t)record[at + 4] << 8 | record[at + 5];
         const uint8_t *totals = record + at + TALLY_QUERY_LENGTH(bits, count);
         for (size_t i = 0; i < count; i++) {
             print_bits(record + at + 6 + i * TALLY_PACKED_LENGTH(bits), bits);
-            printf(" %lld\n", (long long)tally_signed_total(total(totals, i)));
+            printf(" %lld\n", (long long)tally_signed_total(tally_total(totals + i * TALLY_NUMBER_LENGTH)));
         }
         at += TALLY_QUERY_LENGTH(bits, count) + TALLY_SHARE_LENGTH(count);
     }

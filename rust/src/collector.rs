@@ -79,8 +79,11 @@ impl Collector {
     /// are taken, it then expects the first two totals to add to the number of reports; and no total below 0 or above that number.
     pub fn with_every_weight_one(mut self) -> Collector {
         self.every_weight_one = true;
-        if let (State::Asking { parents, .. }, true) = (&mut self.state, self.record.is_empty()) {
-            *parents = vec![(BitString::default(), i128::from(self.reports))];
+        match &mut self.state {
+            State::Asking { query, parents } if *query == FIRST_QUERY => {
+                *parents = vec![(BitString::default(), i128::from(self.reports))];
+            }
+            _ => {}
         }
         self
     }
@@ -179,7 +182,8 @@ impl Collector {
         }
     }
 
-    /// The record so far: each answered query followed by its totals, as the whole search writes it; [`Record`](crate::Record) reads it.
+    /// The record so far, as the whole search writes it: the number of reports, from the start, and then each answered query followed by its
+    /// totals; [`Record`](crate::Record) reads it.
     pub fn record(&self) -> &[u8] {
         &self.record
     }
@@ -215,6 +219,10 @@ impl Collector {
 impl Settings {
     /// A collector for these settings, and the number of reports that both servers hold; it does not ask for the expander.
     ///
+    /// The record begins with this number. In a search that is not weighted the first two totals must add to it; in a weighted one only where the
+    /// collector is told [`with_every_weight_one`](Collector::with_every_weight_one). Otherwise a wrong number is seen only where a total is beyond
+    /// what so many weights can add to, and else stays in the record.
+    ///
     /// ```
     /// use tally::{CollectorError, Expander, Settings, GROUP_ORDER};
     ///
@@ -249,7 +257,7 @@ impl Settings {
             settings: *self,
             reports: reports as i64,
             every_weight_one: false,
-            record: Vec::new(),
+            record: (reports as u64).to_be_bytes().to_vec(),
             state: State::Asking {
                 query: FIRST_QUERY.to_vec(),
                 parents: Vec::new(),

@@ -5,8 +5,8 @@ use crate::{accepted, share_length, written, Expander, Node, Refusal, Seed, Serv
 
 /// How many nodes a list has for a query: one for each report and prefix; for no bytes, the last query of a list at the roots, one for each report.
 ///
-/// A call needs enough for the last query and for the new one. It is 0 where the query's heading is outside its bounds or its own length is not
-/// what the heading says, which a call refuses before it counts nodes.
+/// A call needs enough for the last query and for the new one. It is 0 where the query's fields are outside their bounds or its own length is not
+/// what they say, which a call refuses before it counts nodes.
 ///
 /// ```
 /// use tally::{nodes_count, FIRST_QUERY};

@@ -16,7 +16,8 @@
 //!
 //! What the calls compute, and when they refuse, is proved of the library. The crate `tally-sys` declares it and turns slices into pointers and
 //! lengths; this one turns numbers into enums and reads what was written; both are plain Rust. n and t are 64-bit numbers, as in the library, so
-//! that each wrong value is judged and none is cut; how many reports or prefixes there are is a `usize`, as a slice's length is.
+//! that each wrong value is judged and none is cut; how many reports or prefixes there are is a `usize`, as a slice's length is, and in a record a
+//! `u64`, as it stands there.
 //!
 //! [`PublicShare`], [`Query`], [`Record`] and [`List`] are checked views of bytes, and iterate over what stands in them; a string or a prefix is
 //! then a [`BitString`]. The calls themselves take and return plain bytes.
@@ -38,9 +39,11 @@
 //! * A string or a prefix is packed in the fewest bytes, first bit highest, spare bits zero.
 //! * A public share is the control bits, left then right, level by level, packed in the fewest bytes, lowest bit first, spare bits zero; then for
 //!   each level 16 bytes of seed correction and 8 of payload correction, a number below p = 2^64 − 2^32 + 1, least significant byte first.
-//! * A query is the prefix length minus one in 2 bytes, the count in 4, both big-endian, and the prefixes, strictly ascending.
+//! * A query is the prefix length minus one in 2 bytes, how many prefixes there are in 4, both big-endian, and the prefixes, strictly
+//!   ascending.
 //! * A share is a number below p for each prefix, 8 bytes each, least significant first.
-//! * A record is each query followed by its totals, 8 bytes each; a list is packed strings of n bits, ascending.
+//! * A record is the number of reports, 8 bytes, big-endian; then each query followed by its totals, 8 bytes each, least significant first.
+//! * A list is packed strings of n bits, ascending.
 //!
 //! # Example
 //!
@@ -134,6 +137,18 @@ pub const GROUP_ORDER: u64 = 18_446_744_069_414_584_321;
 /// assert_eq!(tally::prefixes(&tally::FIRST_QUERY).count(), 2);
 /// ```
 pub const FIRST_QUERY: [u8; 8] = [0, 0, 0, 0, 0, 2, 0x00, 0x80];
+
+/// How many bytes stand before the first query of a record: the number of reports, big-endian.
+///
+/// ```
+/// # use tally::{search, Expander, Refusal, Reports, FIRST_QUERY, HEADING_LENGTH};
+/// let none = Reports { seeds: &[], public_shares: &[] };
+/// let record = search(8, 1, Expander::Aes, none, none)?.record;
+/// assert_eq!(record[..HEADING_LENGTH], 0u64.to_be_bytes());
+/// assert!(record[HEADING_LENGTH..].starts_with(&FIRST_QUERY));
+/// # Ok::<(), Refusal>(())
+/// ```
+pub const HEADING_LENGTH: usize = 8;
 
 /// A seed: 16 bytes.
 pub type Seed = [u8; 16];

@@ -1,9 +1,15 @@
 //! Reading queries, shares, records and lists. This is plain Rust beside the proved library.
 
-use crate::{packed_length, BITS_MOST, GROUP_ORDER, PREFIXES_MOST};
+use crate::{packed_length, BITS_MOST, GROUP_ORDER, HEADING_LENGTH, PREFIXES_MOST};
 
-/// The prefix length and the count that stand in a heading.
-fn heading(bytes: &[u8]) -> Option<(u64, usize)> {
+/// The number of reports with which a record begins, and what follows it.
+pub(crate) fn headed(record: &[u8]) -> Option<(u64, &[u8])> {
+    let (heading, after) = record.split_first_chunk::<HEADING_LENGTH>()?;
+    Some((u64::from_be_bytes(*heading), after))
+}
+
+/// The prefix length and the count that stand in the two fields of a query.
+fn fields(bytes: &[u8]) -> Option<(u64, usize)> {
     let [a, b, c, d, e, f] = *bytes.first_chunk::<6>()?;
     let bits = u64::from(u16::from_be_bytes([a, b])) + 1;
     let prefixes = usize::try_from(u32::from_be_bytes([c, d, e, f])).ok()?;
@@ -11,9 +17,9 @@ fn heading(bytes: &[u8]) -> Option<(u64, usize)> {
     within.then_some((bits, prefixes))
 }
 
-/// The prefix length and the count of a query whose own length is what its heading says.
+/// The prefix length and the count of a query whose own length is what its fields say.
 pub(crate) fn laid_out(query: &[u8]) -> Option<(u64, usize)> {
-    heading(query).filter(|&(bits, prefixes)| query.len() == crate::query_length(bits, prefixes))
+    fields(query).filter(|&(bits, prefixes)| query.len() == crate::query_length(bits, prefixes))
 }
 
 /// The group numbers of some bytes, 8 bytes each.
@@ -24,7 +30,7 @@ pub(crate) fn numbers(bytes: &[u8]) -> impl Iterator<Item = u64> + '_ {
     })
 }
 
-/// How many bits each prefix of a query has; `None` where the query's length is not what its heading says.
+/// How many bits each prefix of a query has; `None` where the query's length is not what its two fields say.
 ///
 /// ```
 /// assert_eq!(tally::prefix_bits(&tally::FIRST_QUERY), Some(1));
@@ -33,7 +39,7 @@ pub fn prefix_bits(query: &[u8]) -> Option<u64> {
     laid_out(query).map(|(bits, _)| bits)
 }
 
-/// The packed prefixes of a query, in order; none where the query's length is not what its heading says.
+/// The packed prefixes of a query, in order; none where the query's length is not what its two fields say.
 ///
 /// ```
 /// let prefixes: Vec<&[u8]> = tally::prefixes(&tally::FIRST_QUERY).collect();
@@ -136,7 +142,10 @@ impl<'a> Level<'a> {
     }
 }
 
-/// The levels of a record, in order; they end where the bytes are no level.
+/// The levels of a record, which stand behind the number of reports, in order; they end where the bytes are no level.
+///
+/// The number of reports is passed over without a look at it. A record stored before version 0.5.0 has none, so that its first query is passed over
+/// instead; where its first total is at most 65,535 there are then no levels, and no error says so. [`Record`](crate::Record) takes no such record.
 ///
 /// ```
 /// # use tally::*;
@@ -150,9 +159,9 @@ impl<'a> Level<'a> {
 /// # Ok::<(), Refusal>(())
 /// ```
 pub fn levels(record: &[u8]) -> impl Iterator<Item = Level<'_>> {
-    let mut left = record;
+    let mut left = headed(record).map_or(&[][..], |(_, levels)| levels);
     std::iter::from_fn(move || {
-        let (bits, prefixes) = heading(left)?;
+        let (bits, prefixes) = fields(left)?;
         let (query, after) = left.split_at_checked(crate::query_length(bits, prefixes))?;
         let (totals, after) = after.split_at_checked(8 * prefixes)?;
         left = after;

@@ -5,7 +5,7 @@ use crate::{accepted, Expander, Found, Refusal, Reports, Settings};
 /// The whole search over both servers' reports: its record and its list.
 ///
 /// It is [`Settings::search`] with the usual settings. It allocates what honest reports need, [`record_space`](crate::record_space()) and
-/// [`list_space`](crate::list_space()) bytes: with n = 256, t = 1 and 65,535 reports, the most, these are 803,460,126 and 2,097,120. Lend more to
+/// [`list_space`](crate::list_space()) bytes: with n = 256, t = 1 and 65,535 reports, the most, these are 803,460,134 and 2,097,120. Lend more to
 /// [`search_into`] to see what ill-formed reports give.
 ///
 /// ```
@@ -46,9 +46,10 @@ pub fn search(
 /// use tally::{search_into, Expander, Found, Refusal, Reports};
 ///
 /// let none = Reports { seeds: &[], public_shares: &[] };
-/// let mut record = [7; 24];
+/// let mut record = [7; 32];
 /// let found = search_into(1, 1, Expander::Aes, none, none, &mut record, &mut [])?;
-/// assert_eq!(found, Found { record: 24, list: 0 });
+/// assert_eq!(found, Found { record: 32, list: 0 });
+/// assert_eq!(record[..8], [0; 8]); // no reports
 /// # Ok::<(), Refusal>(())
 /// ```
 ///

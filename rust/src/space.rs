@@ -56,8 +56,8 @@ pub fn query_length(bits: u64, prefixes: usize) -> usize {
 
 /// How many bytes a server's share for a query has: 8 for each prefix.
 ///
-/// It is 0 where the query's heading is outside its bounds or its own length is not what the heading says, which a call refuses before it looks
-/// at the space.
+/// It is 0 where the query's fields are outside their bounds or its own length is not what they say, which a call refuses before it looks at the
+/// space.
 ///
 /// ```
 /// assert_eq!(tally::share_length(&tally::FIRST_QUERY), 16);
@@ -69,8 +69,8 @@ pub fn share_length(query: &[u8]) -> usize {
 
 /// Space that is enough for what combining answers to a query: the next query if all prefixes are kept, or at length n the list.
 ///
-/// It is 0 where n is not from 1 to 256, the prefixes are longer than n, the query's heading is outside its bounds or its own length is not what
-/// the heading says, which combining refuses before it looks at the space.
+/// It is 0 where n is not from 1 to 256, the prefixes are longer than n, the query's fields are outside their bounds or its own length is not what
+/// they say, which combining refuses before it looks at the space.
 ///
 /// ```
 /// assert_eq!(tally::answer_space(2, &tally::FIRST_QUERY), 6 + 4);
@@ -90,17 +90,18 @@ pub fn answer_space(n: u64, query: &[u8]) -> usize {
 
 /// Space that is enough for the record of a search over honest reports, as the proved library counts it.
 ///
-/// The first query has two prefixes; a later one has at most two for each of the ⌊reports ÷ t⌋ that can be kept, and never more than there
-/// are. A level takes a heading of 6 bytes, and for each prefix its packed bits and a total of 8 bytes. Ill-formed reports may need more.
+/// The number of reports takes 8 bytes, [`HEADING_LENGTH`](crate::HEADING_LENGTH). The first query has two prefixes; a later one has at most two
+/// for each of the ⌊reports ÷ t⌋ that can be kept, and never more than there are. A level takes 6 bytes for the two fields of its query, and for
+/// each prefix its packed bits and a total of 8 bytes. Ill-formed reports may need more.
 ///
 /// It is 0 where n, t or the number of reports is outside its bounds, which a search refuses before it looks at the space; within them it is
-/// never below 24, so that 0 means outside, and never above 803,460,126.
+/// never below 32, so that 0 means outside, and never above 803,460,134.
 ///
 /// ```
-/// assert_eq!(tally::record_space(2, 2, 3), 48);
+/// assert_eq!(tally::record_space(2, 2, 3), 56);
 /// assert_eq!(tally::record_space(0, 1, 1), 0);
-/// assert_eq!(tally::record_space(1, 65_535, 0), 24);
-/// assert_eq!(tally::record_space(256, 1, 65_535), 803_460_126);
+/// assert_eq!(tally::record_space(1, 65_535, 0), 32);
+/// assert_eq!(tally::record_space(256, 1, 65_535), 803_460_134);
 /// ```
 pub fn record_space(n: u64, t: u64, reports: usize) -> usize {
     Settings::new(n, t, Expander::Aes).record_space(reports)
@@ -130,8 +131,8 @@ impl Settings {
     /// use tally::{Expander, Settings};
     ///
     /// let settings = Settings::new(3, 1_000, Expander::Aes);
-    /// assert_eq!(settings.record_space(6), 24);
-    /// assert_eq!(settings.weighted().record_space(6), 24 + 42 + 78);
+    /// assert_eq!(settings.record_space(6), 8 + 24);
+    /// assert_eq!(settings.weighted().record_space(6), 8 + 24 + 42 + 78);
     /// ```
     pub fn record_space(&self, reports: usize) -> usize {
         tally_sys::record_space(self.n, self.weighted, self.threshold, reports as u64) as usize

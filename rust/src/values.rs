@@ -122,12 +122,12 @@ pub enum Answer<B = Vec<u8>> {
 ///
 /// let none = Reports { seeds: &[], public_shares: &[] };
 /// let Found { record, list } = search(1, 1, Expander::Aes, none, none)?;
-/// assert_eq!((record.len(), list.len()), (24, 0));
+/// assert_eq!((record.len(), list.len()), (32, 0));
 /// # Ok::<(), Refusal>(())
 /// ```
 #[derive(Clone, Debug, PartialEq, Eq)]
 pub struct Found<B = Vec<u8>> {
-    /// The record: each query followed by its totals; [`levels`](crate::levels) and [`Record`](crate::Record) read it.
+    /// The record: the number of reports, then each query followed by its totals; [`levels`](crate::levels) and [`Record`](crate::Record) read it.
     pub record: B,
     /// The list: the strings that at least t reports hold, or in a weighted search those that [`Settings::search`](crate::Settings::search) names; [`strings`](crate::strings) and [`List`](crate::List) read it.
     pub list: B,

@@ -1,7 +1,10 @@
 //! Queries, records and lists as checked views of bytes.
 
-use crate::read::{laid_out, levels, numbers};
-use crate::{packed_length, signed_total, BitString, Refusal, BITS_MOST, GROUP_ORDER};
+use crate::read::{headed, laid_out, levels, numbers};
+use crate::{
+    packed_length, signed_total, BitString, Refusal, BITS_MOST, GROUP_ORDER, HEADING_LENGTH,
+    REPORTS_MOST,
+};
 
 /// Whether packed strings of that many bits, one after the other, have no spare bits set and are strictly ascending.
 fn ascending(bits: u64, packed: &[u8]) -> bool {
@@ -59,7 +62,7 @@ impl<'a> Query<'a> {
         sound.then_some(query).ok_or(Refusal::Query)
     }
 
-    /// The packed prefixes behind the heading.
+    /// The packed prefixes behind the two fields.
     fn packed(&self) -> &'a [u8] {
         self.bytes.get(6..).unwrap_or_default()
     }
@@ -114,14 +117,16 @@ impl<'a> Round<'a> {
     }
 }
 
-/// The record of a search, checked: its rounds, whose prefixes have 1, 2, 3 bits and so on.
+/// The record of a search, checked: the number of reports, and the rounds, whose prefixes have 1, 2, 3 bits and so on.
 ///
 /// ```
 /// use tally::{search, Expander, Record, Refusal, Reports};
 ///
 /// let none = Reports { seeds: &[], public_shares: &[] };
 /// let found = search(8, 1, Expander::Aes, none, none)?;
-/// for round in Record::new(&found.record).unwrap().rounds() {
+/// let record = Record::new(&found.record).unwrap();
+/// println!("{} reports", record.reports());
+/// for round in record.rounds() {
 ///     for (prefix, total) in round.counted() {
 ///         println!("{prefix} {total}");
 ///     }
@@ -130,25 +135,33 @@ impl<'a> Round<'a> {
 /// ```
 #[derive(Clone, Copy, Debug, PartialEq, Eq)]
 pub struct Record<'a> {
+    reports: u64,
     bytes: &'a [u8],
 }
 
 impl<'a> Record<'a> {
-    /// The record in some bytes, which may have no round yet.
+    /// The record in some bytes, which may have no round yet: then they are the number of reports alone, 8 bytes.
     ///
-    /// `None` where they are not whole rounds, a query is not as laid out, a round's prefixes are not one bit longer than those of the round
-    /// before, or a total is p or more.
+    /// `None` where there are fewer than 8, the number of reports is above 65,535, which no search takes, what follows is not whole rounds, a query
+    /// is not as laid out, a round's prefixes are not one bit longer than those of the round before, or a total is p or more. The number of reports
+    /// is not compared with the totals: with weights other than one they do not tell it.
     ///
     /// ```
     /// use tally::{Record, FIRST_QUERY};
     ///
-    /// let record = [&FIRST_QUERY[..], &[0; 16]].concat();
+    /// let record = [&2u64.to_be_bytes()[..], &FIRST_QUERY, &[0; 16]].concat();
     /// assert_eq!(Record::new(&record).unwrap().rounds().count(), 1);
+    /// assert_eq!(Record::new(&record[..8]).unwrap().rounds().count(), 0);
     /// assert!(Record::new(&record[1..]).is_none());
+    /// assert!(Record::new(&65_536u64.to_be_bytes()).is_none());
     /// ```
     pub fn new(bytes: &'a [u8]) -> Option<Record<'a>> {
-        let record = Record { bytes };
-        let (mut length, mut bits) = (0, 0);
+        let (reports, _) = headed(bytes)?;
+        if reports > REPORTS_MOST as u64 {
+            return None;
+        }
+        let record = Record { reports, bytes };
+        let (mut length, mut bits) = (HEADING_LENGTH, 0);
         for round in record.rounds() {
             bits += 1;
             length += round.query.bytes.len() + round.totals.len();
@@ -158,6 +171,24 @@ impl<'a> Record<'a> {
             }
         }
         (length == bytes.len()).then_some(record)
+    }
+
+    /// How many reports the search was lent, honest or not.
+    ///
+    /// Where all are honest and of weight one, the first two totals add to it.
+    ///
+    /// ```
+    /// use tally::{make_key, search, Expander, Record, Refusal, Reports};
+    ///
+    /// let public_share = make_key(8, Expander::Aes, &[0xbe], &[1; 16], &[2; 16])?;
+    /// let zero = Reports { seeds: &[[1; 16]], public_shares: &public_share };
+    /// let one = Reports { seeds: &[[2; 16]], public_shares: &public_share };
+    /// let found = search(8, 1, Expander::Aes, zero, one)?;
+    /// assert_eq!(Record::new(&found.record).unwrap().reports(), 1);
+    /// # Ok::<(), Refusal>(())
+    /// ```
+    pub fn reports(&self) -> u64 {
+        self.reports
     }
 
     /// The bytes, as the whole search writes them.

@@ -159,7 +159,7 @@ fn the_first_query_is_that_of_every_search() {
     let collector = Collector::new(256, 65_535, 65_535).unwrap();
     assert_eq!(collector.query(), Some(&FIRST_QUERY[..]));
     assert_eq!((collector.is_over(), collector.list()), (false, None));
-    assert!(collector.record().is_empty());
+    assert_eq!(collector.record(), [0, 0, 0, 0, 0, 0, 0xff, 0xff]);
     assert_eq!(collector.into_found(), None);
 }
 

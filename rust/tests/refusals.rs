@@ -182,11 +182,11 @@ fn refusal_11_space() {
 #[test]
 fn refusal_11_list_space_zeroes_the_record() {
     let key = one_bit();
-    let (mut record, mut list) = ([7; 30], [7; 0]);
+    let (mut record, mut list) = ([7; 38], [7; 0]);
     let lent = reports(&key);
     let found = search_into(1, 1, AES, lent, lent, &mut record, &mut list);
     assert_eq!(found, Err(Refusal::Space));
-    assert_eq!(record, [0; 30]);
+    assert_eq!(record, [0; 38]);
 }
 
 /// A query of that many prefixes of 17 bits, the first ones.
@@ -221,7 +221,7 @@ fn the_lowest_number_is_returned() {
     assert_eq!(found, Err(Refusal::Threshold));
 }
 
-/// The space of a record as it is defined: level by level, by recursion.
+/// The space of a record as it is defined: the number of reports, then level by level, by recursion.
 fn defined_space(n: u64, t: u64, reports: usize) -> usize {
     fn level(k: u32, count: usize) -> usize {
         match count {
@@ -236,7 +236,7 @@ fn defined_space(n: u64, t: u64, reports: usize) -> usize {
         let there_are = 2usize.checked_pow(k + 1).unwrap_or(usize::MAX);
         level(k, there_are.min(2 * w)) + from(w, m - 1, k + 1)
     }
-    level(0, 2) + from(reports / t as usize, n - 1, 1)
+    8 + level(0, 2) + from(reports / t as usize, n - 1, 1)
 }
 
 #[test]
@@ -258,9 +258,9 @@ fn space_is_as_defined() {
 
 #[test]
 fn the_largest_and_the_least_space() {
-    assert_eq!(record_space(256, 1, REPORTS_MOST), 803_460_126);
+    assert_eq!(record_space(256, 1, REPORTS_MOST), 803_460_134);
     assert_eq!(list_space(256, 1, REPORTS_MOST), 2_097_120);
-    assert_eq!(record_space(1, THRESHOLD_MOST, 0), 24);
+    assert_eq!(record_space(1, THRESHOLD_MOST, 0), 32);
     assert_eq!(list_space(256, THRESHOLD_MOST, REPORTS_MOST - 1), 0);
 }
 

@@ -2,7 +2,7 @@
 
 use tally::{
     combine, digits, levels, make_key, search, search_into, share, totals, Answer, Expander, Found,
-    Refusal, Reports, Seed, Server, FIRST_QUERY, GROUP_ORDER,
+    Refusal, Reports, Seed, Server, FIRST_QUERY, GROUP_ORDER, HEADING_LENGTH,
 };
 
 const BOTH: [Expander; 2] = [Expander::Aes, Expander::Classroom];
@@ -111,7 +111,8 @@ fn c_shares_off_the_path() {
 fn d_the_search() {
     for expander in BOTH {
         let found = search_two(expander, &D);
-        assert_eq!(found.record.len(), 48);
+        assert_eq!(found.record.len(), 56);
+        assert_eq!(found.record[..HEADING_LENGTH], [0, 0, 0, 0, 0, 0, 0, 3]);
         assert_eq!(lines(&found.record), ["0 2", "1 1", "00 0", "01 2"]);
         assert_eq!(found.list, [0x40]);
     }
@@ -120,7 +121,7 @@ fn d_the_search() {
 #[test]
 fn d_level_by_level() {
     let of = collection(2, Expander::Aes, &D);
-    let (mut query, mut record) = (FIRST_QUERY.to_vec(), Vec::new());
+    let (mut query, mut record) = (FIRST_QUERY.to_vec(), vec![0, 0, 0, 0, 0, 0, 0, 3]);
     let list = loop {
         let by = |server, reports| share(2, Expander::Aes, server, reports, &query).unwrap();
         let (share0, share1) = (by(Server::Zero, of.zero()), by(Server::One, of.one()));
@@ -152,6 +153,8 @@ fn f_an_empty_list() {
     for expander in BOTH {
         let found = search_two(expander, &[0x40, 0x00, 0xc0]);
         assert_eq!(lines(&found.record), ["0 2", "1 1", "00 1", "01 1"]);
+        assert_eq!(found.record[..40], search_two(expander, &D).record[..40]);
+        assert_eq!(found.record.len(), 56);
         assert!(found.list.is_empty());
     }
 }
@@ -163,6 +166,13 @@ fn g_no_reports() {
         let found = search(1, 1, expander, of.zero(), of.one()).unwrap();
         assert_eq!(lines(&found.record), ["0 0", "1 0"]);
         assert!(found.list.is_empty());
+        for (space, fits) in [(31, false), (32, true)] {
+            let mut record = vec![7; space];
+            let (record, list) = (&mut record, &mut []);
+            let made = search_into(1, 1, expander, of.zero(), of.one(), record, list);
+            assert_eq!(made.is_ok(), fits);
+            assert_eq!(*record == found.record, fits);
+        }
     }
 }
 
@@ -180,11 +190,11 @@ fn i_the_largest_payload() {
         share(1, Expander::Classroom, Server::One, of.one(), &FIRST_QUERY).map(|share| share.len())
     };
     let whole = |of: &Collection| {
-        let (record, list) = (&mut [0; 24], &mut [0; 2]);
+        let (record, list) = (&mut [0; 32], &mut [0; 2]);
         search_into(1, 1, Expander::Classroom, of.zero(), of.one(), record, list)
             .map(|found| found.record)
     };
-    assert_eq!((by(&of), whole(&of)), (Ok(16), Ok(24)));
+    assert_eq!((by(&of), whole(&of)), (Ok(16), Ok(32)));
     of.public_shares[17..].copy_from_slice(&GROUP_ORDER.to_le_bytes());
     let refused = Refusal::GroupNumber;
     assert_eq!((by(&of), whole(&of)), (Err(refused), Err(refused)));
@@ -195,19 +205,19 @@ fn j_space_for_the_record() {
     for expander in BOTH {
         let of = collection(2, expander, &D);
         let expected = search_two(expander, &D);
-        let (mut record, mut list) = ([7; 49], [7; 2]);
+        let (mut record, mut list) = ([7; 57], [7; 2]);
         let (zero, one) = (of.zero(), of.one());
-        let refused = search_into(2, 2, expander, zero, one, &mut record[..47], &mut list);
+        let refused = search_into(2, 2, expander, zero, one, &mut record[..55], &mut list);
         assert_eq!(refused, Err(Refusal::Space));
-        assert_eq!(record[..47], [0; 47]);
-        assert_eq!((&record[47..], list), (&[7; 2][..], [7; 2]));
-        let found = search_into(2, 2, expander, zero, one, &mut record[..48], &mut list);
+        assert_eq!(record[..55], [0; 55]);
+        assert_eq!((&record[55..], list), (&[7; 2][..], [7; 2]));
+        let found = search_into(2, 2, expander, zero, one, &mut record[..56], &mut list);
         let lengths = Found {
-            record: 48,
+            record: 56,
             list: 1,
         };
         assert_eq!(found, Ok(lengths));
-        assert_eq!(record[..48], expected.record);
-        assert_eq!((record[48], list), (7, [0x40, 7]));
+        assert_eq!(record[..56], expected.record);
+        assert_eq!((record[56], list), (7, [0x40, 7]));
     }
 }

@@ -129,7 +129,8 @@ fn a_record_and_a_list_are_read() {
         });
         let found = search(2, 2, expander, zero, one).unwrap();
         let record = Record::new(&found.record).unwrap();
-        let (mut lines, mut bytes) = (Vec::new(), Vec::new());
+        assert_eq!(record.reports(), 3);
+        let (mut lines, mut bytes) = (Vec::new(), record.reports().to_be_bytes().to_vec());
         for round in record.rounds() {
             let counted = round.counted();
             lines.extend(counted.map(|(prefix, total)| format!("{prefix} {total}")));
@@ -151,21 +152,24 @@ fn a_record_and_a_list_are_read() {
 
 #[test]
 fn a_record_not_as_laid_out_is_none() {
+    let is_record =
+        |rounds: &[&[u8]]| Record::new(&[&[0; 8], &rounds.concat()[..]].concat()).is_some();
     let round = [&FIRST_QUERY[..], &[0; 16]].concat();
     let second = [&[0u8, 1, 0, 0, 0, 1, 0x40][..], &[1; 8]].concat();
-    let record = [&round[..], &second].concat();
+    let record = [&[0; 8], &round[..], &second].concat();
     for cut in 0..=record.len() {
-        let whole = [0, round.len(), record.len()].contains(&cut);
+        let whole = [8, 8 + round.len(), record.len()].contains(&cut);
         assert_eq!(Record::new(&record[..cut]).is_some(), whole, "{cut}");
     }
-    assert!(Record::new(&second).is_none());
-    assert!(Record::new(&round.repeat(2)).is_none());
+    assert!(is_record(&[&round, &second]));
+    assert!(!is_record(&[&second]));
+    assert!(!is_record(&[&round, &round]));
     let mut large = round.clone();
     large[8..16].copy_from_slice(&GROUP_ORDER.to_le_bytes());
-    assert!(Record::new(&large).is_none());
+    assert!(!is_record(&[&large]));
     let mut descending = round;
     descending[6..8].copy_from_slice(&[0x80, 0x00]);
-    assert!(Record::new(&descending).is_none());
+    assert!(!is_record(&[&descending]));
 }
 
 #[test]

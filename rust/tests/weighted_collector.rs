@@ -89,6 +89,16 @@ fn the_first_totals_may_add_to_anything_unless_every_weight_is_one() {
 }
 
 #[test]
+fn told_later_that_every_weight_is_one_it_expects_no_first_totals() {
+    let mut collector = begun(2, 7);
+    assert_eq!(answered(&mut collector, &[5, 2]), Ok(()));
+    let mut ones = collector.with_every_weight_one();
+    assert_eq!(answered(&mut ones, &[3, 3, 1, 1]), children("0", 5, 6));
+    assert_eq!(answered(&mut ones, &[8, -3, 1, 1]), beyond("00", 8));
+    assert_eq!(answered(&mut ones, &[3, 2, 1, 1]), Ok(()));
+}
+
+#[test]
 fn two_children_add_to_their_parent_as_signed_numbers() {
     let mut collector = begun(3, 3);
     assert_eq!(answered(&mut collector, &[-4, 10]), Ok(()));

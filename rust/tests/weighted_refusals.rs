@@ -131,10 +131,10 @@ fn weighted_space_is_that_of_the_fewest_holders() {
     let least = weighted(1, WEIGHTED_THRESHOLD_MOST, Expander::Aes);
     assert_eq!(
         (least.record_space(0), least.list_space(REPORTS_MOST)),
-        (24, 0)
+        (32, 0)
     );
     let most = weighted(BITS_MOST, 32_767, Expander::Aes);
-    assert_eq!(most.record_space(REPORTS_MOST), 803_460_126);
+    assert_eq!(most.record_space(REPORTS_MOST), 803_460_134);
     assert_eq!(most.list_space(REPORTS_MOST), 2_097_120);
     for (n, t, reports) in [
         (0, 1, 1),

@@ -69,7 +69,8 @@ fn a_record_holds_the_group_number_of_a_negative_total() {
     for expander in BOTH {
         let found = search(1, expander, &held(&[("1", -5)]));
         let totals = [0u64, GROUP_ORDER - 5].map(u64::to_le_bytes).concat();
-        assert_eq!(found.record, [&FIRST_QUERY[..], &totals].concat());
+        let count = [0, 0, 0, 0, 0, 0, 0, 1];
+        assert_eq!(found.record, [&count, &FIRST_QUERY[..], &totals].concat());
         assert!(found.list.is_empty());
         let level = levels(&found.record).next().unwrap();
         let expected = [(&[0x00][..], 0), (&[0x80][..], -5)];
@@ -160,26 +161,26 @@ fn an_exact_fit_and_one_byte_less() {
         let [zero, one] = of.both();
         let settings = weighted(3, 1_000, expander);
         let expected = settings.search(zero, one).unwrap();
-        assert_eq!((expected.record.len(), expected.list.len()), (72, 1));
-        for (record_space, list_space) in [(71, 1), (72, 0)] {
-            let (mut record, mut list) = ([7; 73], [7; 2]);
+        assert_eq!((expected.record.len(), expected.list.len()), (80, 1));
+        for (record_space, list_space) in [(79, 1), (80, 0)] {
+            let (mut record, mut list) = ([7; 81], [7; 2]);
             let lent = (&mut record[..record_space], &mut list[..list_space]);
             let refused = settings.search_into(zero, one, lent.0, lent.1);
             assert_eq!(refused, Err(Refusal::Space));
             assert_eq!(
                 (&record[..record_space], list),
-                (&[0; 73][..record_space], [7; 2])
+                (&[0; 81][..record_space], [7; 2])
             );
             assert!(record[record_space..].iter().all(|&byte| byte == 7));
         }
-        let (mut record, mut list) = ([7; 73], [7; 2]);
-        let found = settings.search_into(zero, one, &mut record[..72], &mut list[..1]);
+        let (mut record, mut list) = ([7; 81], [7; 2]);
+        let found = settings.search_into(zero, one, &mut record[..80], &mut list[..1]);
         let lengths = Found {
-            record: 72,
+            record: 80,
             list: 1,
         };
         assert_eq!(found, Ok(lengths));
-        assert_eq!((&record[..72], record[72]), (&expected.record[..], 7));
+        assert_eq!((&record[..80], record[80]), (&expected.record[..], 7));
         assert_eq!(list, [0x40, 7]);
     }
 }

@@ -58,6 +58,23 @@ pub fn queried(strings: &[Vec<bool>], n: usize, t: u64) -> Vec<(Vec<bool>, u64)>
     all
 }
 
+/// The record of an unweighted search: the number of strings, then each query with its totals.
+pub fn record(strings: &[Vec<bool>], n: usize, t: u64) -> Vec<u8> {
+    recorded(strings.len(), &queried(strings, n, t))
+}
+
+/// The record of so many reports in which these prefixes have these totals.
+fn recorded(reports: usize, queried: &[(Vec<bool>, u64)]) -> Vec<u8> {
+    let mut record = (reports as u64).to_be_bytes().to_vec();
+    for level in queried.chunk_by(|(one, _), (next, _)| one.len() == next.len()) {
+        record.extend((level[0].0.len() as u16 - 1).to_be_bytes());
+        record.extend((level.len() as u32).to_be_bytes());
+        record.extend(level.iter().flat_map(|(prefix, _)| pack(prefix)));
+        record.extend(level.iter().flat_map(|(_, total)| total.to_le_bytes()));
+    }
+    record
+}
+
 /// A string and the weight of its report.
 pub type Weighed = (Vec<bool>, i16);
 
@@ -101,20 +118,15 @@ pub fn weighted_queried(reports: &[Weighed], n: usize, t: u64) -> Vec<(Vec<bool>
     all
 }
 
-/// The record of a weighted search: each query with its totals modulo p.
+/// The record of a weighted search: the number of reports whatever their weights, then each query
+/// with its totals modulo p.
 pub fn weighted_record(reports: &[Weighed], n: usize, t: u64) -> Vec<u8> {
-    let queried = weighted_queried(reports, n, t);
-    let mut record = vec![];
-    for level in queried.chunk_by(|(one, _), (next, _)| one.len() == next.len()) {
-        record.extend((level[0].0.len() as u16 - 1).to_be_bytes());
-        record.extend((level.len() as u32).to_be_bytes());
-        record.extend(level.iter().flat_map(|(prefix, _)| pack(prefix)));
-        for &(_, total) in level {
-            let number = i128::from(total).rem_euclid(i128::from(P));
-            record.extend((number as u64).to_le_bytes());
-        }
-    }
-    record
+    let modulo_p = |total: i64| i128::from(total).rem_euclid(i128::from(P)) as u64;
+    let queried = weighted_queried(reports, n, t).into_iter();
+    let queried: Vec<(Vec<bool>, u64)> = queried
+        .map(|(prefix, total)| (prefix, modulo_p(total)))
+        .collect();
+    recorded(reports.len(), &queried)
 }
 
 /// The record and the list of a weighted search, both packed.

@@ -124,10 +124,13 @@ fn printed(n: usize, record: &[u8], list: &[u8]) -> String {
     lines
 }
 
-/// Each queried prefix of a record: its length, its packed bits, its total.
+/// The bytes of the head of a record, which is not printed.
+const HEAD: usize = 8;
+
+/// Each queried prefix of a record, after its head: its length, its packed bits, its total.
 pub fn entries(record: &[u8]) -> Vec<(usize, Vec<u8>, u64)> {
     let mut entries = Vec::new();
-    let mut rest = record;
+    let mut rest = &record[HEAD..];
     while rest.len() >= 6 {
         let length = u16::from_be_bytes([rest[0], rest[1]]) as usize + 1;
         let count = u32::from_be_bytes([rest[2], rest[3], rest[4], rest[5]]) as usize;

@@ -1,5 +1,5 @@
-//! The number with which each of document 01's four calls refuses, or 0, with request [1] of
-//! document 02; so too for adding two shares of one server, which document 01 does not have. The
+//! The number with which each of document 01's four calls refuses, or 0, with requests [1] and [4]
+//! of document 02; so too for adding two shares of one server, which document 01 does not have. The
 //! calls of request [2] stand in `judge/kept.rs`.
 
 mod kept;
@@ -26,6 +26,8 @@ pub const NUMBER_BYTES: usize = 8;
 pub const LEVEL_BYTES: usize = 24;
 /// The bytes of a query before its prefixes.
 pub const QUERY_HEAD_BYTES: usize = 6;
+/// The bytes of a record before its first query: the number of reports.
+pub const RECORD_HEAD_BYTES: usize = 8;
 
 /// The bytes of a packed string or prefix of `bits` bits.
 #[must_use]
@@ -195,15 +197,15 @@ fn kept_count(weighted: bool, t: u64, share0: &[u8], share1: &[u8]) -> usize {
         .count()
 }
 
-/// Whether a level's query and totals fit the record area after the `used` bytes (false: 11).
+/// Whether a level's query and totals fit the record area after the head and the `used` bytes of
+/// the levels before (false: 11).
 #[must_use]
 pub fn level_fits(record_space: usize, used: usize, prefix_length: usize, count: usize) -> bool {
     let query = query_bytes(prefix_length, count);
     let level = query.and_then(|bytes| bytes.checked_add(share_bytes(count)?));
-    fits(
-        level.and_then(|bytes| bytes.checked_add(used)),
-        record_space,
-    )
+    let levels = level.and_then(|bytes| bytes.checked_add(used));
+    let record = levels.and_then(|bytes| bytes.checked_add(RECORD_HEAD_BYTES));
+    fits(record, record_space)
 }
 
 /// Whether a next query of `count` prefixes keeps to the most prefixes of one query (false: 11).

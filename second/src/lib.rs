@@ -1,4 +1,4 @@
-//! The second program: document 01, and requests [1] and [2] of document 02, written again,
+//! The second program: document 01, and requests [1], [2] and [4] of document 02, written again,
 //! plainly, by another hand.
 
 #![forbid(unsafe_code)]

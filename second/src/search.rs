@@ -55,11 +55,11 @@ pub fn search(
         totals(&share0, &share1)
     };
     let answer_to = |query: &Query, totals: &[u64]| answer(n, weighted, t, query, totals);
-    let Some((made_record, made_list)) = run(n, answer_to, totals_of, record.len(), list.len())
-    else {
+    let Some((levels, made_list)) = run(n, answer_to, totals_of, record.len(), list.len()) else {
         record.fill(0);
         return refused(11);
     };
+    let made_record = [&head(reports0.count())[..], &levels].concat();
     record[..made_record.len()].copy_from_slice(&made_record);
     list[..made_list.len()].copy_from_slice(&made_list);
     Found {
@@ -69,7 +69,12 @@ pub fn search(
     }
 }
 
-/// Record and list.
+/// The head of a record: the number of reports, most significant byte first.
+fn head(reports: usize) -> [u8; 8] {
+    std::array::from_fn(|i| (reports as u64 >> (8 * (7 - i))) as u8)
+}
+
+/// The record after its head, and the list.
 type Outcome = (Vec<u8>, Vec<u8>);
 
 /// The search with the totals of each query and the answer to them, where the judge finds that
@@ -81,18 +86,18 @@ fn run(
     record_space: usize,
     list_space: usize,
 ) -> Option<Outcome> {
-    let mut record = Vec::new();
+    let mut levels = Vec::new();
     let mut asked = query::first();
     loop {
         let query = Query::of(&asked);
         if !judge::next_passes(query.count)
-            || !judge::level_fits(record_space, record.len(), query.length, query.count)
+            || !judge::level_fits(record_space, levels.len(), query.length, query.count)
         {
             return None;
         }
         let totals = totals_of(&query);
-        record.extend_from_slice(&asked);
-        record.extend(totals.iter().flat_map(|&total| field::write(total)));
+        levels.extend_from_slice(&asked);
+        levels.extend(totals.iter().flat_map(|&total| field::write(total)));
         let list = match answer_to(&query, &totals) {
             Answer::Next(next) => {
                 asked = next;
@@ -102,6 +107,22 @@ fn run(
             Answer::Ended => Vec::new(),
         };
         let count = list.len() / query::packed_size(n);
-        return judge::list_fits(list_space, n, count).then_some((record, list));
+        return judge::list_fits(list_space, n, count).then_some((levels, list));
+    }
+}
+
+#[cfg(test)]
+mod tests {
+    use super::*;
+
+    #[test]
+    fn heads() {
+        assert_eq!(head(0), [0; 8]);
+        assert_eq!(head(1), [0, 0, 0, 0, 0, 0, 0, 1]);
+        assert_eq!(head(255), [0, 0, 0, 0, 0, 0, 0, 255]);
+        assert_eq!(head(256), [0, 0, 0, 0, 0, 0, 1, 0]);
+        assert_eq!(head(65_535), [0, 0, 0, 0, 0, 0, 255, 255]);
+        assert_eq!(head(0x0102_0304), [0, 0, 0, 0, 1, 2, 3, 4]);
+        assert!((0..65_536).all(|reports| head(reports) == (reports as u64).to_be_bytes()));
     }
 }

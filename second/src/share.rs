@@ -53,6 +53,11 @@ pub struct Reports<'a> {
 }
 
 impl Reports<'_> {
+    /// The number of reports.
+    pub fn count(&self) -> usize {
+        self.seeds.len() / 16
+    }
+
     /// One server's sum over all reports at one packed prefix; server is true for 1.
     pub fn sum(&self, expander: Expander, server: bool, prefix: &[u8], length: usize) -> u64 {
         let seeds = self.seeds.chunks_exact(16);

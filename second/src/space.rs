@@ -18,12 +18,15 @@ fn holders(weighted: bool, t: u64) -> u64 {
     }
 }
 
-/// The space of a record, or 0: each query of the longest search with its totals.
+/// The bytes of the head of a record.
+const HEAD: u64 = 8;
+
+/// The space of a record, or 0: the head, and each query of the longest search with its totals.
 pub fn record_space(n: u64, weighted: bool, t: u64, reports: u64) -> u64 {
     let Some(kept) = kept(n, weighted, t, reports) else {
         return 0;
     };
-    let mut space = 0;
+    let mut space = HEAD;
     for length in 1..=n {
         let there_are = if length < 64 { 1 << length } else { u64::MAX };
         let asked = match length {

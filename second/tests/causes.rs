@@ -219,7 +219,7 @@ fn causes_of_search() {
     let found = into(&mut record, &mut [0; 1]);
     assert_eq!(
         (found.number, found.record_length, found.list_length),
-        (0, 72, 1)
+        (0, 80, 1)
     );
 }
 

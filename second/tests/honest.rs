@@ -77,6 +77,7 @@ fn lists_and_records_are_the_counts() {
             .map(|(length, prefix, total)| (unpack(&prefix, length), total))
             .collect();
         assert_eq!(queried, brute::queried(&all, n, t));
+        assert_eq!(record, brute::record(&all, n, t));
     }
 }
 
@@ -119,6 +120,8 @@ fn records_are_equal_exactly_when_cut_strings_are_rearranged() {
         let second = searched(&mut rng, n, t, e, &other).0;
         let same = brute::cut(&all, t) == brute::cut(&other, t);
         assert_eq!(first == second, same);
+        // The head says nothing that the totals do not say, where every weight is one.
+        assert_eq!(first[8..] == second[8..], same);
         if same {
             equal += 1;
         } else {

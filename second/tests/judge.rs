@@ -313,12 +313,12 @@ fn search_pairs() {
     assert_eq!(alike(&seeds[16..], &vec![0; 65_535 * 25]), 0);
 }
 
-/// Example J holds, and example D's list takes one byte.
+/// Example J holds with the head of request [4], and example D's list takes one byte.
 #[test]
 fn example_j() {
-    assert!(level_fits(48, 0, 1, 2));
-    assert!(level_fits(48, 24, 2, 2));
-    assert!(!level_fits(47, 24, 2, 2));
+    assert!(level_fits(56, 0, 1, 2));
+    assert!(level_fits(56, 24, 2, 2));
+    assert!(!level_fits(55, 24, 2, 2));
     assert!(list_fits(1, 2, 1));
     assert!(!list_fits(0, 2, 1));
     assert!(list_fits(0, 2, 0));
@@ -326,11 +326,22 @@ fn example_j() {
     assert!(!next_passes(131_071));
 }
 
+/// No area without room for the head and the first level is enough.
+#[test]
+fn head_and_first_level() {
+    for room in 0..40 {
+        assert_eq!(level_fits(room, 0, 1, 2), room >= 32);
+    }
+}
+
 /// Sizes that no `usize` holds do not fit.
 #[test]
 fn overflow() {
     assert!(!level_fits(usize::MAX, 0, 1, usize::MAX));
     assert!(!level_fits(usize::MAX, usize::MAX, 1, 2));
+    assert!(level_fits(usize::MAX, usize::MAX - 32, 1, 2));
+    assert!(!level_fits(usize::MAX, usize::MAX - 31, 1, 2));
+    assert!(!level_fits(usize::MAX, usize::MAX - 24, 1, 2));
     assert!(!level_fits(usize::MAX, 0, usize::MAX, 16));
     assert!(!list_fits(usize::MAX, usize::MAX, 16));
     assert!(!next_passes(usize::MAX));

@@ -73,9 +73,9 @@ fn searched(strings: [&str; 3], record: &mut [u8], list: &mut [u8]) -> Found {
     )
 }
 
-/// The record of two queries with these totals.
+/// The record of three reports with two queries and these totals.
 fn record_of(prefixes: [u8; 4], totals: [u64; 4]) -> Vec<u8> {
-    let mut record = Vec::new();
+    let mut record = vec![0, 0, 0, 0, 0, 0, 0, 3];
     for level in 0..2 {
         let asked = &prefixes[2 * level..2 * level + 2];
         record.extend(write(level + 1, &[vec![asked[0]], vec![asked[1]]]));
@@ -89,32 +89,36 @@ fn record_of(prefixes: [u8; 4], totals: [u64; 4]) -> Vec<u8> {
 #[test]
 fn d_e_f_j() {
     let wanted = record_of([0x00, 0x80, 0x00, 0x40], [2, 1, 0, 2]);
-    assert_eq!(wanted.len(), 48);
+    assert_eq!(wanted.len(), 56);
     let passes = Found {
         number: 0,
-        record_length: 48,
+        record_length: 56,
         list_length: 1,
     };
     for strings in [["01", "01", "11"], ["01", "01", "10"]] {
-        let (mut record, mut list) = ([0xeeu8; 48], [0xeeu8; 2]);
+        let (mut record, mut list) = ([0xeeu8; 56], [0xeeu8; 2]);
         assert_eq!(searched(strings, &mut record, &mut list), passes);
         assert_eq!(record[..], wanted);
         assert_eq!(list, [0x40, 0xee]);
     }
-    let (mut record, mut list) = ([0xeeu8; 50], [0xeeu8; 2]);
+    let (mut record, mut list) = ([0xeeu8; 58], [0xeeu8; 2]);
     let found = searched(["01", "00", "11"], &mut record, &mut list);
     assert_eq!((found.number, found.list_length), (0, 0));
     let wanted = record_of([0x00, 0x80, 0x00, 0x40], [2, 1, 1, 1]);
-    assert_eq!(record[..48], wanted);
-    assert_eq!((record[48], record[49], list), (0xee, 0xee, [0xee; 2]));
-    let (mut record, mut list) = ([0xeeu8; 47], [0xeeu8; 2]);
+    assert_eq!(record[..56], wanted);
+    assert_eq!((record[56], record[57], list), (0xee, 0xee, [0xee; 2]));
     let refused = Found {
         number: 11,
         record_length: 0,
         list_length: 0,
     };
-    let found = searched(["01", "01", "11"], &mut record, &mut list);
-    assert_eq!((found, record, list), (refused, [0; 47], [0xee; 2]));
+    for strings in [["01", "01", "11"], ["01", "01", "10"], ["01", "00", "11"]] {
+        for room in [0, 1, 7, 8, 9, 24, 31, 32, 33, 47, 48, 55] {
+            let (mut record, mut list) = (vec![0xeeu8; room], [0xeeu8; 2]);
+            let found = searched(strings, &mut record, &mut list);
+            assert_eq!((found, record, list), (refused, vec![0; room], [0xee; 2]));
+        }
+    }
     let mut record = [0xeeu8; 60];
     let found = searched(["01", "01", "11"], &mut record, &mut []);
     assert_eq!((found, record), (refused, [0; 60]));
@@ -123,25 +127,17 @@ fn d_e_f_j() {
 #[test]
 fn g_no_reports() {
     for expander in [1, 2] {
-        let mut record = [0xeeu8; 24];
-        let found = search(
-            1,
-            false,
-            1,
-            expander,
-            &[],
-            &[],
-            &[],
-            &[],
-            &mut record,
-            &mut [],
-        );
-        assert_eq!(
-            (found.number, found.record_length, found.list_length),
-            (0, 24, 0)
-        );
-        assert_eq!(record[..8], first());
-        assert_eq!(record[8..], [0; 16]);
+        let none = |record: &mut [u8]| {
+            let found = search(1, false, 1, expander, &[], &[], &[], &[], record, &mut []);
+            (found.number, found.record_length, found.list_length)
+        };
+        let mut record = [0xeeu8; 32];
+        assert_eq!(none(&mut record), (0, 32, 0));
+        assert_eq!(record[..8], [0; 8]);
+        assert_eq!(record[8..16], first());
+        assert_eq!(record[16..], [0; 16]);
+        let mut record = [0xeeu8; 31];
+        assert_eq!((none(&mut record), record), ((11, 0, 0), [0; 31]));
     }
 }
 
@@ -153,7 +149,7 @@ fn i_payload_corrections() {
         let mut space = [0u8; 16];
         let reply = share(1, 2, true, &ONE, &public, &first(), &mut space);
         assert_eq!(reply.number, number);
-        let mut record = [0u8; 24];
+        let mut record = [0u8; 32];
         let found = search(
             1,
             false,
@@ -178,7 +174,7 @@ fn bounds_of_n_and_t() {
         assert_eq!(reply.number, number);
         let reply = share(n, 1, false, &[], &[], &first(), &mut [0; 16]);
         assert_eq!(reply.number, number);
-        let found = search(n, false, 1, 1, &[], &[], &[], &[], &mut [0; 24], &mut []);
+        let found = search(n, false, 1, 1, &[], &[], &[], &[], &mut [0; 32], &mut []);
         assert_eq!(found.number, number);
         let made = combine(n, false, 1, &first(), &[0; 16], &[0; 16], &mut []);
         assert_eq!(made.number, number);
@@ -192,7 +188,7 @@ fn bounds_of_n_and_t() {
             length: 0,
         };
         assert_eq!(made, wanted);
-        let found = search(1, false, t, 1, &[], &[], &[], &[], &mut [0; 24], &mut []);
+        let found = search(1, false, t, 1, &[], &[], &[], &[], &mut [0; 32], &mut []);
         assert_eq!(found.number, number);
     }
 }

@@ -143,7 +143,7 @@ fn thresholds_around_both_bounds() {
             let kind = if number == 0 { 2 } else { 0 };
             assert_eq!((made.number, made.kind, made.length), (number, kind, 0));
             for e in [1, 2] {
-                let (mut record, mut list) = ([0xee; 24], [0xee; 3]);
+                let (mut record, mut list) = ([0xee; 32], [0xee; 3]);
                 let found = search(
                     1,
                     weighted,
@@ -156,10 +156,10 @@ fn thresholds_around_both_bounds() {
                     &mut record,
                     &mut list,
                 );
-                let length = if number == 0 { 24 } else { 0 };
+                let length = if number == 0 { 32 } else { 0 };
                 assert_eq!((found.number, found.record_length), (number, length));
                 assert_eq!((found.list_length, list), (0, [0xee; 3]));
-                assert_eq!(record == [0xee; 24], number != 0);
+                assert_eq!(record == [0xee; 32], number != 0);
             }
         }
     }
@@ -270,7 +270,7 @@ fn spaces_of_weighted_searches() {
                     assert_eq!(record, record_space(n, false, holders, reports));
                     assert_eq!(list, list_space(n, false, holders, reports));
                 } else {
-                    assert_eq!((record, list), (24, 0));
+                    assert_eq!((record, list), (32, 0));
                 }
             }
         }
@@ -287,5 +287,5 @@ fn spaces_of_weighted_searches() {
         assert_eq!(list_space(n, true, t, reports), 0);
     }
     assert_eq!(record_space(1, false, 65_536, 1), 0);
-    assert_eq!(record_space(1, true, 65_536, 1), 24);
+    assert_eq!(record_space(1, true, 65_536, 1), 32);
 }

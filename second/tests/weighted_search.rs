@@ -82,7 +82,12 @@ fn weighed(reports: &[(&str, i16)]) -> Vec<Weighed> {
         .collect()
 }
 
-/// The record of one level.
+/// The record of this many reports with these levels.
+fn record_of(reports: u8, levels: &[Vec<u8>]) -> Vec<u8> {
+    [vec![0, 0, 0, 0, 0, 0, 0, reports], levels.concat()].concat()
+}
+
+/// The query and the totals of one level.
 fn level(length: usize, prefixes: &[u8], totals: &[u64]) -> Vec<u8> {
     let packed: Vec<Vec<u8>> = prefixes.iter().map(|&byte| vec![byte]).collect();
     let totals = totals.iter().flat_map(|total| total.to_le_bytes());
@@ -92,13 +97,10 @@ fn level(length: usize, prefixes: &[u8], totals: &[u64]) -> Vec<u8> {
 #[test]
 fn a_heavy_child_under_a_light_parent_is_not_listed() {
     let reports = weighed(&[("01", 5), ("01", -2), ("11", -7), ("10", 4)]);
-    let record = [
-        level(1, &[0x00, 0x80], &[3, P - 3]),
-        level(2, &[0x00, 0x40], &[0, 3]),
-    ]
-    .concat();
+    let first = level(1, &[0x00, 0x80], &[3, P - 3]);
+    let record = record_of(4, &[first.clone(), level(2, &[0x00, 0x40], &[0, 3])]);
     assert_eq!(
-        record[16..24],
+        record[24..32],
         [0xfe, 0xff, 0xff, 0xff, 0xfe, 0xff, 0xff, 0xff]
     );
     assert_eq!(brute::weight_held(&reports, &bits("10")), 4);
@@ -107,11 +109,11 @@ fn a_heavy_child_under_a_light_parent_is_not_listed() {
         let honest = Honest::of(&mut rng, 2, e, &reports);
         assert_eq!(honest.searched(true, 2), (record.clone(), vec![0x40]));
         assert_eq!(honest.searched(true, 3), (record.clone(), vec![0x40]));
-        let (found, area, list) = honest.search(true, 2, [47, 1]);
-        assert_eq!((found.number, area, list), (11, vec![0; 47], vec![0xee]));
+        let (found, area, list) = honest.search(true, 2, [55, 1]);
+        assert_eq!((found.number, area, list), (11, vec![0; 55], vec![0xee]));
         let (found, area, list) = honest.search(true, 2, [60, 0]);
         assert_eq!((found.number, area, list), (11, vec![0; 60], vec![]));
-        let ended = level(1, &[0x00, 0x80], &[3, P - 3]);
+        let ended = record_of(4, std::slice::from_ref(&first));
         assert_eq!(honest.searched(true, 4), (ended, vec![]));
     }
 }
@@ -125,9 +127,10 @@ fn a_negative_total_stands_raw_in_the_record() {
         let (record, list) = honest.searched(true, 1);
         assert_eq!(list, [0x00]);
         let raw = [0xfc, 0xff, 0xff, 0xff, 0xfe, 0xff, 0xff, 0xff];
-        assert_eq!(record[..8], [0, 0, 0, 0, 0, 2, 0x00, 0x80]);
-        assert_eq!(record[8..16], [1, 0, 0, 0, 0, 0, 0, 0]);
-        assert_eq!(record[16..], raw);
+        assert_eq!(record[..8], [0, 0, 0, 0, 0, 0, 0, 2]);
+        assert_eq!(record[8..16], [0, 0, 0, 0, 0, 2, 0x00, 0x80]);
+        assert_eq!(record[16..24], [1, 0, 0, 0, 0, 0, 0, 0]);
+        assert_eq!(record[24..], raw);
         assert_eq!(u64::from_le_bytes(raw), P - 5);
         assert_eq!(honest.searched(false, 1), (record, vec![0x00, 0x80]));
     }
@@ -267,7 +270,8 @@ fn the_largest_sums() {
         honest.seeds = honest.seeds.map(|seed| seed.repeat(65_535));
         honest.public = honest.public.repeat(65_535);
         let total = i128::from(sum).rem_euclid(i128::from(P)) as u64;
-        let record = level(1, &[0x00, 0x80], &[0, total]);
+        let head = vec![0, 0, 0, 0, 0, 0, 0xff, 0xff];
+        let record = [head, level(1, &[0x00, 0x80], &[0, total])].concat();
         for t in [1, 2_147_385_345, 2_147_385_346, MOST] {
             let list = if sum >= t as i64 { vec![0x80] } else { vec![] };
             assert_eq!(honest.searched(true, t), (record.clone(), list));

@@ -84,7 +84,7 @@ module _ (n : ℕ) (weighted : Bool) (t : ℕ) (q s0 s1 d : List ℕ) (byte : (i
         pub children-bytes : length (packs qs) ≡ 2 * m * w
         children-bytes = children-size n weighted t q s0 s1 byte r (reachesAs weighted t) m em ∙ rw (ew, el)
 
-        -- the heading and then the children make the next query
+        -- the two fields and then the children make the next query
         next-put : 6 + 2 * m * w ≤ length d → (o₁ out : List ℕ) → o₁ ≡ putAt d 0 (fields len (2 * m)) → out ≡ putAt o₁ 6 (packs qs)
             → out ≡ putAt d 0 (query (prefixLength q) qs)
         next-put h o₁ out p₁ p₂ =

@@ -8,7 +8,7 @@ use Rattle.tree.specs.Cut.{prefixes, cut}
 use Rattle.tree.proofs.Prefixes.{prefixes-exact, cut-shortest, cut-whole}
 use Rattle.honest.proofs.Demand2.{honest-total, first-add, query-most}
 use Rattle.honest.proofs.Weighted.{weighted-total, weighted-children}
-use Rattle.honest.proofs.Demand3.{records-alike, record-begins}
+use Rattle.honest.proofs.Demand3.{records-alike, record-reports, record-begins}
 use Rattle.demands.specs.Demands.{CutTo, Demand3}
 
 -- a cut string is what the user's sentence says
@@ -24,6 +24,7 @@ pub demand-3 : Demand3
 demand-3 = (
   cut-to,
   records-alike,
+  record-reports,
   record-begins,
   λ s xs ws honest ones ok q some fits. honest-total s xs ws honest ones ok q (omega arith) fits,
   λ s xs ws honest ok q some fits. weighted-total s xs ws honest ok q (omega arith) fits,

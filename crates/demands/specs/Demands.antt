@@ -11,6 +11,7 @@ use lib.Dec.{eqb}
 use lib.IntN.{ℤ, _+ℤ_}
 use Rattle.places.specs.Lists.{_∈_, All}
 use Rattle.bits.specs.Strings.{Bits, _▹_, isPrefix, count, Ascending}
+use Rattle.numbers.specs.Numbers.{big}
 use Rattle.group.specs.Modular.{modulus}
 use Rattle.signed.specs.SignedReading.{signedIn}
 use Rattle.weights.specs.Weights.{EveryOne, heldWeight}
@@ -126,7 +127,7 @@ Demand2 =
     -- So does the list that both servers and combining leave when they are called in turn, unless a cause before 11 applies;
     × ((s : Lent) (xs : List Bits) (ws : List ℤ) → Honest s xs ws → EveryOne ws → Passes s → TheHeavyStrings s xs (byCalls s .listed))
     × ((s : Lent) (xs : List Bits) (ws : List ℤ) → Honest s xs ws → Passes s → TheWeightedStrings s xs ws (byCalls s .listed))
-    -- and for any reports, honest or not, what they leave is the record and the list of an accepted search.
+    -- and for any reports, honest or not, an accepted search's record is the number of reports and then what they leave, and its list is theirs.
     × ((s : Lent) → Accepted s → (recordRead s ≡ heading (countedNumber s) ++ byCalls s .recorded) × (listRead s ≡ byCalls s .listed))
     -- So it is where both servers keep their nodes: with lists long enough for every query the calls leave the same.
     × ((s : Lent) → Passes s → queriesFit s ≡ true → (nodes : Bool → List Node)
@@ -164,8 +165,10 @@ Demand3 =
     × ((s u : Lent) (xs ys : List Bits) (ws vs : List ℤ) → Honest s xs ws → Honest u ys vs → EveryOne ws → EveryOne vs
     → s .n ≡ u .n → thresholdOf s ≡ thresholdOf u → Accepted s → Accepted u
     → (recordRead s ≡ recordRead u) ↔ Rearranged (cutStrings s xs) (cutStrings u ys))
+    -- Document 02, [4]: 'Every record shall begin with C as 8 bytes, big-endian', whatever reports were lent.
+    × ((s : Lent) → Accepted s → take 8 (recordRead s) ≡ big 8 (countedNumber s))
     -- 'This is all that two servers jointly learn from the totals': the record has each query followed by its totals (demand 2, called in turn), so the
-    -- equivalence above speaks of all of them; and no record is empty,
+    -- equivalence above speaks of all of them; and every record has at least the first query and its totals,
     × ((s : Lent) → Accepted s
     → (rest : List ℕ) × (recordRead s ≡ heading (countedNumber s) ++ (firstQuery ++ (totals (total s) (children start) ++ rest))))
     -- 'A candidate must be able to work it out by hand, so no random noise may be added to the totals': where every weight is one the total of a prefix
@@ -175,7 +178,7 @@ Demand3 =
     × ((s : Lent) (xs : List Bits) (ws : List ℤ) → Honest s xs ws → Accepted s
     → (q : Bits) → 1 ≤ length q → length q ≤ s .n → signedIn modulus (total s q) ≡ heldWeight (countedStrings s xs) (countedWeights s ws) q)
     -- Document 01: 'the totals of two children add to their parent's', as signed numbers with any weights; 'the first two totals add to C, and a query
-    -- after the first has at most 2 × ⌊C ÷ t⌋ prefixes', where every weight is one.
+    -- after the first has at most 2 × ⌊C ÷ t⌋ prefixes', where every weight is one; there 'the first totals already gave C' (document 02, [4]).
     × ((s : Lent) (xs : List Bits) (ws : List ℤ) → Honest s xs ws → Accepted s → (q : Bits) → 1 ≤ length q → length q < s .n
     → signedIn modulus (total s (q ▹ false)) +ℤ signedIn modulus (total s (q ▹ true)) ≡ signedIn modulus (total s q))
     × ((s : Lent) (xs : List Bits) (ws : List ℤ) → Honest s xs ws → EveryOne ws → Accepted s → total s (false ∷ []) + total s (true ∷ []) ≡ countedNumber s)

@@ -4,7 +4,7 @@ use native.Mathlib.Omega.{arith}
 use mathlib.Core.Path.{_≡_, sym, ap₂, _∙_, subst}
 use mathlib.Core.Bool.{Bool, true, false}
 use mathlib.Core.List.{List}
-use lib.ListN.{length}
+use lib.ListN.{length, drop}
 use lib.Dec.{leb}
 use lib.IntN.{ℤ}
 use Rattle.bits.specs.Strings.{Bits, count}
@@ -13,7 +13,7 @@ use Rattle.expander.specs.Expander.{isExpander}
 use Rattle.kept.specs.Kept.{reaches}
 use Rattle.query.specs.Query.{OfLength, packs}
 use Rattle.weights.specs.Weights.{EveryOne}
-use Rattle.tree.specs.SearchRule.{searchRecord, searchList}
+use Rattle.tree.specs.SearchRule.{headingLength, searchRecord, searchList}
 use Rattle.tree.specs.Space.{fewestHolders, recordSpace, listSpace}
 use Rattle.search.specs.Search.{Lent, thresholdOf, searchNumber}
 use Rattle.search.proofs.Outcome.{Sound, accepted-clear}
@@ -29,7 +29,7 @@ use Rattle.exam_answering.proofs.Printed.{printed-answer, answer-rounds
 
 -- A search of at most 32 honest reports for strings of 1 to 32 bits that is not weighted, in the exam program's areas, is accepted.
 pub exam-accepted : (s : Lent) (xs : List Bits) (ws : List ℤ) → Honest s xs ws → s .weighted ≡ false → 1 ≤ s .n → s .n ≤ 32 → 1 ≤ thresholdOf s → thresholdOf s ≤ 65535 → isExpander (s .expander) ≡ true
-    → length (countedStrings s xs) ≤ 32 → length (s .recordArea) ≡ 19374 → length (s .listArea) ≡ 128 → searchNumber s ≡ 0
+    → length (countedStrings s xs) ≤ 32 → length (s .recordArea) ≡ 19382 → length (s .listArea) ≡ 128 → searchNumber s ≡ 0
 exam-accepted s xs ws honest plain from to least most known few room list =
     honest-accepted s xs ws honest from (omega arith) least
     (subst (λ (b : Bool). s .t ≤ thresholdMost b) (sym plain) most) known (omega arith)
@@ -61,8 +61,8 @@ module _ (s : Lent) (sheet : Sheet) (ws : List ℤ) (honest : Honest s (strings 
       (printed-answer sheet all (omega (arith, sound .some-bits)) (omega (arith, sound .not-longer)) (omega (arith, sound .some-threshold))
       (few-strings s (strings sheet) ws honest ok) (length (strings sheet)))
 
-  -- Its record is at most n queries, each followed by its totals.
-  pub answer-read : Rounds roundLength (s .n) (recordRead s)
+  -- Its record is, behind the number of reports, at most n queries, each followed by its totals.
+  pub answer-read : Rounds roundLength (s .n) (drop headingLength (recordRead s))
   answer-read =
       rw (record-is, same-n)
       (answer-rounds sheet all (omega (arith, sound .some-bits)) (omega (arith, sound .not-longer)) (omega (arith, sound .some-threshold))

@@ -18,18 +18,19 @@ use Rattle.numbers.proofs.Endian.{little-length, fromLittle-little}
 use Rattle.bits.proofs.Packed.{pack-length, unpack-pack}
 use Rattle.kept.specs.Kept.{reaches}
 use Rattle.query.specs.Query.{OfLength, packs, query, limit, children}
-use Rattle.tree.specs.SearchRule.{start, totals, fitsFrom, recordFrom, heading, isKept, searchRecord, searchList, searchFits}
+use Rattle.tree.specs.SearchRule.{start, totals, fitsFrom, recordFrom, heading, headingLength, isKept, searchRecord, searchList, searchFits}
 use Rattle.places.proofs.Lists.{and-left, and-right}
 use Rattle.query.proofs.Children.{children-longer, kept-longer}
 use Rattle.tree.proofs.Steps.{record-nothing}
 use Rattle.query.proofs.Queries.{packs-length}
 use Rattle.tree.proofs.Kept.{list-length}
+use Rattle.tree.proofs.Lengths.{heading-length}
 use Rattle.tree.proofs.Totals.{count-le, honest-fits}
 use Rattle.exam_text.specs.Sheet.{Sheet, strings}
 use Rattle.exam_lines.specs.Lines.{prefixLine, heavyLine}
 use Rattle.exam_answering.specs.AnswerText.{heavyLines, prefixLines, queriedFrom, answerText}
 use Rattle.exam_text.proofs.Records.{Rounds}
-use Rattle.exam_answering.specs.Printing.{entryLines, recordLines, listLines, printed, roundLength}
+use Rattle.exam_answering.specs.Printing.{entryLines, roundsLines, listLines, printed, roundLength}
 use Rattle.exam_answering.proofs.Rounds.{round-prefix-length, round-count, round-prefixes, round-totals, round-rest, round-inside, round-long}
 
 -- ---- one string of many, packed one after the other
@@ -61,8 +62,8 @@ module _ (T : Bits → ℕ) (small : (q : Bits) → T q < 256 ^ 8) where
 
   -- the lines of a query with its totals, and then those of the rest
   round-printed : (m k : ℕ) (qs : List Bits) (rest : List ℕ) → k < 65536 → length qs < 4294967296 → OfLength (suc k) qs
-      → recordLines (suc m) ((query k qs ++ totals T qs) ++ rest) ≡ prefixLines T qs ++ recordLines m rest
-  unfolding recordLines
+      → roundsLines (suc m) ((query k qs ++ totals T qs) ++ rest) ≡ prefixLines T qs ++ roundsLines m rest
+  unfolding roundsLines
   round-printed m k qs rest short few a =
       let bytes = (query k qs ++ totals T qs) ++ rest in
       let some : eqb (length bytes) 0 ≡ false = ne-eqb (length bytes) 0 (λ e. omega (arith, round-long T k qs rest short few a)) in
@@ -74,12 +75,12 @@ module _ (T : Bits → ℕ) (small : (q : Bits) → T q < 256 ^ 8) where
         round-count T k qs rest short few a,
         round-prefix-length T k qs rest short few a,
       )
-      (ap (λ lines. lines ++ recordLines m rest) (entries-printed (suc k) qs (totals T qs ++ rest) rest a))
+      (ap (λ lines. lines ++ roundsLines m rest) (entries-printed (suc k) qs (totals T qs ++ rest) rest a))
 
 -- ---- a record
 
-none-printed : (m : ℕ) → recordLines m [] ≡ []
-unfolding recordLines
+none-printed : (m : ℕ) → roundsLines m [] ≡ []
+unfolding roundsLines
 none-printed zero = refl
 none-printed (suc m) = refl
 
@@ -110,10 +111,10 @@ module _ (keeps : Bits → Bool) (T : Bits → ℕ) where
 
   -- The lines of a record of m levels below prefixes of k bits are those of the rule.
   pub record-printed : ((q : Bits) → T q < 256 ^ 8) → (m k : ℕ) (ps : List Bits) → OfLength k ps → k + m ≤ 256 → fitsFrom keeps m ps ≡ true
-      → recordLines m (recordFrom keeps T m k ps) ≡ prefixLines T (queriedFrom keeps m ps)
+      → roundsLines m (recordFrom keeps T m k ps) ≡ prefixLines T (queriedFrom keeps m ps)
   unfolding queriedFrom prefixLines
   record-printed small zero k ps a l fits = none-printed zero
-  record-printed small (suc m) k [] a l fits = ap (recordLines (suc m)) (record-nothing keeps T (suc m) k) ∙ none-printed (suc m) ∙ sym (lines-nothing (suc m))
+  record-printed small (suc m) k [] a l fits = ap (roundsLines (suc m)) (record-nothing keeps T (suc m) k) ∙ none-printed (suc m) ∙ sym (lines-nothing (suc m))
   record-printed small (suc m) k (p ∷ ps) a l fits =
       let qs = children (p ∷ ps) in
       let rest = recordFrom keeps T m (suc k) (select keeps qs) in
@@ -166,16 +167,24 @@ module _ (s : Sheet) (all : OfLength (s .n) (strings s)) (from : 1 ≤ s .n) (to
   unfolding searchFits
   fits = honest-fits (s .n) (s .t) (strings s) all some most
 
+  -- behind the number of reports stand the queries with their totals
+  behind : (C : ℕ) → let T = count (strings s) in let keeps = isKept (reaches (s .t)) T in
+      drop headingLength (searchRecord (reaches (s .t)) T C (s .n)) ≡ recordFrom keeps T (s .n) 0 start
+  unfolding searchRecord
+  behind C = drop-at (heading C) _ headingLength (heading-length C)
+
   -- What is printed of the record and of the list of a sheet's strings is the sheet's answer.
   pub printed-answer : (C : ℕ) → printed (s .n) (searchRecord (reaches (s .t)) (count (strings s)) C (s .n)) (packs (searchList (reaches (s .t)) (count (strings s)) (s .n))) ≡ answerText s
-  unfolding printed answerText searchRecord heading
+  unfolding printed answerText
   printed-answer C =
       let ss = searchList (reaches (s .t)) (count (strings s)) (s .n) in
       let bits = list-length (reaches (s .t)) (count (strings s)) (s .n) in
-      ap₂ _++_ (record-printed (isKept (reaches (s .t)) (count (strings s))) (count (strings s)) small (s .n) 0 start (refl, tt) (omega arith) fits)
+      ap₂ _++_
+      (ap (roundsLines (s .n)) (behind C)
+      ∙ record-printed (isKept (reaches (s .t)) (count (strings s))) (count (strings s)) small (s .n) 0 start (refl, tt) (omega arith) fits)
       (ap (λ c. listLines (s .n) c (packs ss)) (list-count (s .n) ss bits from) ∙ list-printed (s .n) ss bits)
 
-  -- That record is at most n queries, each followed by its totals.
-  pub answer-rounds : (C : ℕ) → Rounds roundLength (s .n) (searchRecord (reaches (s .t)) (count (strings s)) C (s .n))
-  unfolding searchRecord heading
-  answer-rounds C = record-rounds (isKept (reaches (s .t)) (count (strings s))) (count (strings s)) (s .n) 0 start (refl, tt) (omega arith) fits
+  -- That record is, behind the number of reports, at most n queries, each followed by its totals.
+  pub answer-rounds : (C : ℕ) → Rounds roundLength (s .n) (drop headingLength (searchRecord (reaches (s .t)) (count (strings s)) C (s .n)))
+  answer-rounds C =
+      rw (behind C) (record-rounds (isKept (reaches (s .t)) (count (strings s))) (count (strings s)) (s .n) 0 start (refl, tt) (omega arith) fits)

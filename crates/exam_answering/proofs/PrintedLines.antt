@@ -12,7 +12,7 @@ use Rattle.bits.specs.Packing.{packedLength, unpack}
 use Rattle.query.specs.Query.{prefixLength, prefixCount}
 use Rattle.exam_lines.specs.Lines.{prefixLine, heavyLine}
 use Rattle.exam_text.proofs.Records.{Rounds}
-use Rattle.exam_answering.specs.Printing.{entryLines, queryLength, roundLength, recordLines, listLines}
+use Rattle.exam_answering.specs.Printing.{entryLines, queryLength, roundLength, roundsLines, listLines}
 
 -- ---- the prefixes of a round
 
@@ -59,13 +59,13 @@ module _ (bytes : List ℕ) (k count totals : ℕ) (e : k ≡ prefixLength bytes
   pub round-room : roundLength bytes ≤ length bytes → (6 + count * packedLength k ≤ length bytes) × (totals + count * 8 ≤ length bytes)
   round-room r = rw (e, f, g) (omega arith, r)
 
-pub record-none : (m : ℕ) (bytes : List ℕ) → m ≤ 0 → recordLines m bytes ≡ []
-unfolding recordLines
+pub record-none : (m : ℕ) (bytes : List ℕ) → m ≤ 0 → roundsLines m bytes ≡ []
+unfolding roundsLines
 record-none zero bytes h = refl
 record-none (suc m) bytes h = absurd (omega arith)
 
-pub record-end : (m : ℕ) (bytes : List ℕ) → length bytes ≡ 0 → recordLines m bytes ≡ []
-unfolding recordLines
+pub record-end : (m : ℕ) (bytes : List ℕ) → length bytes ≡ 0 → roundsLines m bytes ≡ []
+unfolding roundsLines
 record-end zero bytes h = refl
 record-end (suc m) bytes h = rw (eq-eqb (length bytes) 0 h)
 
@@ -78,8 +78,8 @@ some : (from : ℕ) (bytes : List ℕ) → from < length bytes → length (drop 
 some from bytes inside e = omega (arith, length-drop from bytes)
 
 pub record-step : (m from size : ℕ) (bytes : List ℕ) → size ≡ roundLength (drop from bytes) → 0 < m → from < length bytes
-    → recordLines m (drop from bytes) ≡ roundLines (drop from bytes) ++ recordLines (m - 1) (drop (from + size) bytes)
-unfolding recordLines
+    → roundsLines m (drop from bytes) ≡ roundLines (drop from bytes) ++ roundsLines (m - 1) (drop (from + size) bytes)
+unfolding roundsLines
 record-step zero from size bytes e h inside = absurd (omega arith)
 record-step (suc m) from size bytes e h inside =
     let f : suc m - 1 ≡ m = omega arith in

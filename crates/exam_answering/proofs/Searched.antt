@@ -16,7 +16,7 @@ use Rattle.exam_answering.proofs.SheetSearch.{sheet-honest, sheet-accep
 -- The answer that is written to a sheet is what is printed of the record and the list of the search of its own reports, with its n, t and expander. They are
 -- honest, made for its strings with the weight one each, and the search is accepted.
 pub exam-searched : (s : Sheet) → Within s → (room : ℕ) → examOutcome (text s) room .number ≡ 0
-    → Honest (sheetSearch s (replicate 19374 0) (replicate 128 0)) (strings s) (ones (strings s)) × Accepted (sheetSearch s (replicate 19374 0) (replicate 128 0))
+    → Honest (sheetSearch s (replicate 19382 0) (replicate 128 0)) (strings s) (ones (strings s)) × Accepted (sheetSearch s (replicate 19382 0) (replicate 128 0))
     × (examOutcome (text s) room .written ≡ searchText s)
 exam-searched s w room h =
     let clear = sheet-clear s w room (rw (sheet-outcome s w room) at h) in
@@ -26,7 +26,7 @@ exam-searched s w room h =
     let least = ltb-false (s .t) 1 (threshold-in .0) in
     let most = ltb-false 65535 (s .t) (threshold-in .1) in
     let known = not-false _ (clear .1 .1 .0) in (
-      sheet-honest s w from known (replicate 19374 0) (replicate 128 0),
-      sheet-accepted s w from known (replicate 19374 0) (replicate 128 0) least most (length-replicate {A = ℕ} 19374 0) (length-replicate {A = ℕ} 128 0),
+      sheet-honest s w from known (replicate 19382 0) (replicate 128 0),
+      sheet-accepted s w from known (replicate 19382 0) (replicate 128 0) least most (length-replicate {A = ℕ} 19382 0) (length-replicate {A = ℕ} 128 0),
       sheet-answer s w room h ∙ sym (search-answer s w from known least most),
     )

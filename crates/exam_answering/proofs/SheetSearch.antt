@@ -5,7 +5,7 @@ use native.Mathlib.Omega.{arith}
 use mathlib.Core.Path.{_≡_, refl, sym, ap, ap₂, _∙_}
 use mathlib.Core.Bool.{true, false}
 use mathlib.Core.List.{List, []}
-use lib.ListN.{length, getD, replicate, length-map, length-replicate, List·getD-map}
+use lib.ListN.{length, getD, drop, replicate, length-map, length-replicate, List·getD-map}
 use lib.IntN.{pos}
 use Rattle.places.specs.Places.{Bytes}
 use Rattle.bits.specs.Packing.{pack}
@@ -14,6 +14,7 @@ use Rattle.point.specs.PublicShare.{joined, publicShareLength}
 use Rattle.point.proofs.Joined.{joined-at, joined-byte}
 use Rattle.keymaker.specs.Key.{keyOutcome}
 use Rattle.report_sums.specs.Reports.{seedAt}
+use Rattle.tree.specs.SearchRule.{headingLength}
 use Rattle.search.specs.Search.{Lent, lent}
 use Rattle.search.proofs.Outcome.{named-expander}
 use Rattle.honest.specs.Honest.{Accepted, recordRead, Honest, keyAt}
@@ -21,14 +22,14 @@ use Rattle.honest.proofs.Making.{made-honest}
 use Rattle.weights.proofs.Ones.{ones, ones-length, ones-every, ones-weights, ones-at}
 use Rattle.exam_text.specs.Sheet.{Line, Sheet, strings, expanderNumber, Within}
 use Rattle.exam_text.specs.Reader.{noLine}
-use Rattle.exam_text.proofs.Records.{Rounds}
 use Rattle.exam_reports.specs.SheetReports.{eachLine, publicShareFor, seeds0Of, seeds1Of, publicSharesOf}
 use Rattle.exam_reports.proofs.EachLine.{each-joined}
 use Rattle.exam_reports.proofs.PiecesPut.{joined-same}
 use Rattle.exam_reports.proofs.SheetSizes.{line-sound, seeds0-size, seeds1-size}
 use Rattle.exam_answering.specs.AnswerText.{answerText}
-use Rattle.exam_answering.specs.Printing.{roundLength}
 use Rattle.exam_answering.specs.SheetSearch.{sheetSearch, searchedText, searchText}
+use Rattle.exam_text.proofs.Records.{Rounds}
+use Rattle.exam_answering.specs.Printing.{roundLength}
 use Rattle.exam_answering.proofs.HonestAnswer.{exam-accepted, answer-printed, answer-read}
 
 -- 32 public shares of strings of at most 32 bits take 24,832 bytes
@@ -87,17 +88,17 @@ module _ (s : Sheet) (w : Within s) (from : 1 ≤ s .n) (known : isExpander (exp
       made-honest search (strings s) (ones (strings s)) (w .n-bits) sized0 sized1 (named .0) (named .1) from (omega (arith, w .n-most))
       (ones-length (strings s)) (ones-weights (strings s)) (λ e. ones-every (strings s)) shares-made shares-made
 
-  module _ (least : 1 ≤ s .t) (most : s .t ≤ 65535) (area : length recordArea ≡ 19374) (list : length listArea ≡ 128) where
+  module _ (least : 1 ≤ s .t) (most : s .t ≤ 65535) (area : length recordArea ≡ 19382) (list : length listArea ≡ 128) where
     pub sheet-accepted : Accepted search
     sheet-accepted = exam-accepted search (strings s) (ones (strings s)) sheet-honest refl from (w .n-most) least most known (omega (arith, number, w .lines-most)) area list
 
     pub sheet-printed : searchedText s recordArea listArea ≡ answerText s
     sheet-printed = answer-printed search s (ones (strings s)) sheet-honest (ones-every (strings s)) refl refl sheet-accepted
 
-    pub sheet-rounds : Rounds roundLength (s .n) (recordRead search)
+    pub sheet-rounds : Rounds roundLength (s .n) (drop headingLength (recordRead search))
     sheet-rounds = answer-read search s (ones (strings s)) sheet-honest (ones-every (strings s)) refl refl sheet-accepted
 
 -- In the exam's own areas.
 pub search-answer : (s : Sheet) → Within s → 1 ≤ s .n → isExpander (expanderNumber (s .expander)) ≡ true → 1 ≤ s .t → s .t ≤ 65535 → searchText s ≡ answerText s
 search-answer s w from known least most =
-    sheet-printed s w from known (replicate 19374 0) (replicate 128 0) least most (length-replicate {A = ℕ} 19374 0) (length-replicate {A = ℕ} 128 0)
+    sheet-printed s w from known (replicate 19382 0) (replicate 128 0) least most (length-replicate {A = ℕ} 19382 0) (length-replicate {A = ℕ} 128 0)

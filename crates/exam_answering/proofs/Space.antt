@@ -12,8 +12,8 @@ module _ (n t C : ℕ) (short : n ≤ 32) (some : 1 ≤ t) (few : C ≤ 32) wher
   fewer : C / t ≤ 32
   fewer = omega (arith, div-le-self C t)
 
-  -- The record takes at most 19,374 bytes.
-  pub exam-record : recordSpace n t C ≤ 19374
+  -- The record takes at most 19,382 bytes.
+  pub exam-record : recordSpace n t C ≤ 19382
   exam-record =
       let kept : C / t ≤ 32 / 1 = omega (arith, fewer) in
       omega (arith, record-space-grows n 32 t C 1 32 short kept, exam-space .0)

@@ -20,4 +20,4 @@ searchedText s recordArea listArea = printed (s .n) (recordRead (sheetSearch s r
 
 -- the same in the areas that the exam gives it, which are enough for every sheet
 abbrev pub searchText : Sheet → List ℕ
-searchText s = searchedText s (replicate 19374 0) (replicate 128 0)
+searchText s = searchedText s (replicate 19382 0) (replicate 128 0)

@@ -5,6 +5,7 @@ use exam_lines::write_prefix_line;
 use numbers::read_le8;
 use query::prefix_count;
 use query::prefix_length;
+use tree::HEADING_LENGTH;
 ghost use mathlib.Core.Path.{_≡_};
 ghost use Prim.Native.Nat.{_+_, _*_, _/_, _≤_};
 ghost use lib.ListN.{length, take, drop};
@@ -12,9 +13,10 @@ ghost use Rattle.numbers.specs.Numbers.{fromLittle};
 ghost use Rattle.bits.specs.Packing.{packedLength, unpack};
 ghost use Rattle.places.specs.Places.{putAt, overlay};
 ghost use Rattle.query.specs.Query.{prefixLength, prefixCount};
+ghost use Rattle.tree.specs.SearchRule.{headingLength};
 ghost use Rattle.exam_lines.specs.Lines.{prefixLine, heavyLine};
 ghost use Rattle.exam_text.proofs.Records.{Rounds};
-ghost use Rattle.exam_answering.specs.Printing.{entryLines, queryLength, roundLength, recordLines, listLines, printed};
+ghost use Rattle.exam_answering.specs.Printing.{entryLines, queryLength, roundLength, roundsLines, listLines, printed};
 
 // ---- a round of a record
 
@@ -101,21 +103,21 @@ fn round_length(rounds: &[u8]) -> usize
 
 // ---- the whole answer
 
-// Writes the lines of a record of at most n rounds.
-fn write_record(n: usize, record: &[u8], out: &mut [u8], at: usize) -> usize
-    requires { ⌜ Rounds roundLength n (now «record») × (at + length (recordLines n (now «record»)) ≤ length (now out)) ⌝ }
-    ensures { λ r. ⌜ r ≡ at + length (recordLines n (now («record» .entry))) ⌝ }
-    ensures { λ _. ⌜ now (out .exit) ≡ putAt (now (out .entry)) at (recordLines n (now («record» .entry))) ⌝ }
+// Writes the lines of at most n rounds.
+fn write_rounds(n: usize, rounds: &[u8], out: &mut [u8], at: usize) -> usize
+    requires { ⌜ Rounds roundLength n (now rounds) × (at + length (roundsLines n (now rounds)) ≤ length (now out)) ⌝ }
+    ensures { λ r. ⌜ r ≡ at + length (roundsLines n (now (rounds .entry))) ⌝ }
+    ensures { λ _. ⌜ now (out .exit) ≡ putAt (now (out .entry)) at (roundsLines n (now (rounds .entry))) ⌝ }
 {
     let mut left = n;
     let mut from = 0;
     let mut here = at;
     while 0 < left {
-        if record.len() <= from {
+        if rounds.len() <= from {
             return here;
         }
-        here = write_round(&record[from..], out, here);
-        from += round_length(&record[from..]);
+        here = write_round(&rounds[from..], out, here);
+        from += round_length(&rounds[from..]);
         left -= 1;
     }
     here
@@ -150,12 +152,13 @@ fn write_list(n: usize, list: &[u8], out: &mut [u8], at: usize) -> usize
     here
 }
 
-// Prints a record and a list for strings of n bits into the beginning of `out`, and gives back how many bytes that is.
+// Prints a record, from its first query on, and a list for strings of n bits into the beginning of `out`, and gives back how many bytes that is.
 pub(crate) fn print(n: u16, record: &[u8], list: &[u8], out: &mut [u8]) -> usize
-    requires { ⌜ (1 ≤ n) × (n ≤ 256) × Rounds roundLength n (now «record») × (length (printed n (now «record») (now list)) ≤ length (now out)) ⌝ }
+    requires { ⌜ (1 ≤ n) × (n ≤ 256) × (headingLength ≤ length (now «record»)) × Rounds roundLength n (drop headingLength (now «record»))
+        × (length (printed n (now «record») (now list)) ≤ length (now out)) ⌝ }
     ensures { λ r. ⌜ r ≡ length (printed n (now («record» .entry)) (now (list .entry))) ⌝ }
     ensures { λ _. ⌜ now (out .exit) ≡ overlay (printed n (now («record» .entry)) (now (list .entry))) (now (out .entry)) ⌝ }
 {
-    let here = write_record(n as usize, record, out, 0);
+    let here = write_rounds(n as usize, &record[HEADING_LENGTH..], out, 0);
     write_list(n as usize, list, out, here)
 }

@@ -7,11 +7,12 @@ use nodes::public_share_length;
 ghost use mathlib.Core.Path.{_≡_};
 ghost use mathlib.Core.Bool.{true, false};
 ghost use Prim.Native.Nat.{_≤_};
-ghost use lib.ListN.{length};
+ghost use lib.ListN.{length, drop};
 ghost use Rattle.places.specs.Places.{overlay};
 ghost use Rattle.calls.specs.Outcome.{exit, left};
 ghost use Rattle.exam_lines.specs.Lines.{writtenIn};
 ghost use Rattle.expander.specs.Expander.{isExpander};
+ghost use Rattle.tree.specs.SearchRule.{headingLength};
 ghost use Rattle.search.specs.Search.{lent};
 ghost use Rattle.honest.specs.Honest.{Accepted, recordRead, listRead};
 ghost use Rattle.exam_text.specs.Sheet.{expanderNumber};
@@ -34,7 +35,8 @@ fn search_printed(
     out: &mut [u8],
 ) -> usize
     requires { ⌜ (1 ≤ n) × (n ≤ 32) × Accepted (lent n false t expander (now seeds0) (now shares) (now seeds1) (now shares) (now area) (now list)) ⌝ }
-    requires { ⌜ Rounds roundLength n (recordRead (lent n false t expander (now seeds0) (now shares) (now seeds1) (now shares) (now area) (now list))) ⌝ }
+    requires { ⌜ Rounds roundLength n (drop headingLength (recordRead (lent n false t expander (now seeds0) (now shares) (now seeds1) (now shares) (now area)
+        (now list)))) ⌝ }
     requires { ⌜ length (printed n (recordRead (lent n false t expander (now seeds0) (now shares) (now seeds1) (now shares) (now area) (now list)))
         (listRead (lent n false t expander (now seeds0) (now shares) (now seeds1) (now shares) (now area) (now list)))) ≤ length (now out) ⌝ }
     ensures { λ r. ⌜ r ≡ length (printed n (recordRead (lent n false t expander (now (seeds0 .entry)) (now (shares .entry)) (now (seeds1 .entry))
@@ -79,7 +81,7 @@ fn print_answer(
     requires { ⌜ (isSheet (now text) ≡ true) × (1 ≤ n) × (n ≤ 32) × (1 ≤ t) × (t ≤ 65535) × (isExpander expander ≡ true) × (count ≤ 32) ⌝ }
     requires { ⌜ (n ≡ sheetOf (now text) .n) × (t ≡ sheetOf (now text) .t) × (expander ≡ expanderNumber (sheetOf (now text) .expander)) ×
         (count ≡ length (sheetOf (now text) .lines)) ⌝ }
-    requires { ⌜ (length (now seeds0) ≡ 512) × (length (now seeds1) ≡ 512) × (length (now shares) ≡ 24832) × (length (now area) ≡ 19374) ×
+    requires { ⌜ (length (now seeds0) ≡ 512) × (length (now seeds1) ≡ 512) × (length (now shares) ≡ 24832) × (length (now area) ≡ 19382) ×
         (length (now list) ≡ 128) × (length (now out) ≡ 43232) ⌝ }
     ensures { λ _. ⌜ (now (seeds0 .exit) ≡ overlay (seeds0Of (sheetOf (now (text .entry)))) (now (seeds0 .entry)))
         × (now (seeds1 .exit) ≡ overlay (seeds1Of (sheetOf (now (text .entry)))) (now (seeds1 .entry)))
@@ -113,7 +115,7 @@ pub(crate) fn solve(text: &[u8], n: u16, t: u64, expander: u64, count: u16, out:
     let mut seeds0 = [0u8; 512];
     let mut seeds1 = [0u8; 512];
     let mut shares = [0u8; 24832];
-    let mut area = [0u8; 19374];
+    let mut area = [0u8; 19382];
     let mut list = [0u8; 128];
     let mut printed = [0u8; 43232];
     let end = print_answer(

@@ -25,7 +25,7 @@ use Rattle.point.specs.Evaluation.{descend, correctedPayload, shareBelow, node,
 use Rattle.point.specs.PublicShare.{joined, lowestFirst, levelBit, controlByte, levelBytes, publicShare, binaryDigit, readCorrection, every, payloadsBelow, spareBitsZero}
 use Rattle.point.specs.Instance.{fieldScheme}
 use Rattle.query.specs.Query.{packs, query, parts, sparesZero, isAscending, isQuery}
-use Rattle.tree.specs.SearchRule.{heading, searchRecord, searchList}
+use Rattle.tree.specs.SearchRule.{searchRecord, searchList}
 use Rattle.tree.specs.Cut.{honestRecord, honestList, cut}
 use Rattle.keymaker.specs.Key.{keyBytes, keyOutcome}
 use Rattle.report_sums.specs.Reports.{sumWhere, lentShare, serverSum}
@@ -53,7 +53,7 @@ calls = tt
 
 -- Naming `records` opens every definition that a record, a list and a cut string run through.
 unfoldable pub records : Unit {0}
-unfolding searchRecord heading searchList cut
+unfolding searchRecord searchList cut
 records = tt
 
 -- Naming `answers` opens every definition that an answer runs through.
@@ -112,14 +112,15 @@ sheet =
     -- E
     & search-row 2 2 _ _ _ refl refl
     & refl
-    & number-row 2 2 _ 48 (omega arith) (omega arith) (omega arith) (omega arith) (omega arith)
+    & number-row 2 2 _ 56 (omega arith) (omega arith) (omega arith) (omega arith) (omega arith)
     -- F
     & search-row 2 2 _ _ _ refl refl
     & refl
-    & number-row 2 2 _ 48 (omega arith) (omega arith) (omega arith) (omega arith) (omega arith)
+    & number-row 2 2 _ 56 (omega arith) (omega arith) (omega arith) (omega arith) (omega arith)
     -- G
     & search-row 1 1 _ _ _ refl refl
-    & number-row 1 1 _ 24 (omega arith) (omega arith) (omega arith) (omega arith) (omega arith)
+    & number-row 1 1 _ 32 (omega arith) (omega arith) (omega arith) (omega arith) (omega arith)
+    & number-row 1 1 _ 31 (omega arith) (omega arith) (omega arith) (omega arith) (omega arith)
     -- H
     & (refl, refl, refl)
     & (refl, refl, refl)
@@ -127,6 +128,6 @@ sheet =
     & (refl, refl)
     & (refl, refl)
     -- J
-    & number-row 2 2 _ 48 (omega arith) (omega arith) (omega arith) (omega arith) (omega arith)
-    & number-row 2 2 _ 47 (omega arith) (omega arith) (omega arith) (omega arith) (omega arith)
+    & number-row 2 2 _ 56 (omega arith) (omega arith) (omega arith) (omega arith) (omega arith)
+    & number-row 2 2 _ 55 (omega arith) (omega arith) (omega arith) (omega arith) (omega arith)
     & tt

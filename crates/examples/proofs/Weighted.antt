@@ -67,6 +67,8 @@ weighted-examples =
     & refl
     & search-row 1 2147483647 _ _ _ _ refl refl
     & accepted-row 1 2147483647 _ _ (omega arith) (omega arith) (omega arith) (omega arith) (omega arith)
+    & search-row 1 1 _ _ _ _ refl refl
+    & search-row 1 1 _ _ _ _ refl refl
     & refused-row 0 refl
     & refused-row 2147483648 refl
     & tt

@@ -1,4 +1,4 @@
--- Document 01, 'Sheet of examples': the marked examples as one table.
+-- Document 01, 'Sheet of examples': the marked examples as one table; the records and their lengths are those of document 02, [4].
 use Prim.Native.Nat.{ℕ, _+_, _-_, _%_, _≤_}
 use mathlib.Core.Path.{_≡_}
 use mathlib.Core.Bool.{Bool, true, false, cond}
@@ -114,7 +114,11 @@ s11 = true ∷ true ∷ []
 abbrev pub s1 : Bits
 s1 = true ∷ []
 
--- a record of two levels: `0` and `1` with their totals, then `00` and `01` with theirs
+-- the head of a record of C reports, fewer than 256: C as 8 bytes, big-endian
+abbrev pub headOf : ℕ → List ℕ
+headOf C = replicate 7 0 ++ C ∷ []
+
+-- what follows in a record of two levels: `0` and `1` with their totals, then `00` and `01` with theirs
 abbrev pub twoLevels : ℕ → ℕ → ℕ → ℕ → List ℕ
 twoLevels a b c d =
     (0 ∷ 0 ∷ 0 ∷ 0 ∷ 0 ∷ 2 ∷ 0 ∷ 128 ∷ []) ++ (a ∷ replicate 7 0) ++ (b ∷ replicate 7 0)
@@ -139,20 +143,21 @@ table =
     -- C
     ∷ sharesAt keyA (false ∷ []) 5 (modulus - 5)
     -- D
-    ∷ searchOf 2 2 (s01 ∷ s01 ∷ s11 ∷ []) (twoLevels 2 1 0 2) (s01 ∷ [])
+    ∷ searchOf 2 2 (s01 ∷ s01 ∷ s11 ∷ []) (headOf 3 ++ twoLevels 2 1 0 2) (s01 ∷ [])
     ∷ cutsOf 2 (s01 ∷ s01 ∷ s11 ∷ []) (s01 ∷ s01 ∷ s1 ∷ [])
     ∷ outputOf 2 2 (some 2) (s01 ∷ s01 ∷ s11 ∷ []) outputD
     -- E
-    ∷ searchOf 2 2 (s01 ∷ s01 ∷ s10 ∷ []) (twoLevels 2 1 0 2) (s01 ∷ [])
+    ∷ searchOf 2 2 (s01 ∷ s01 ∷ s10 ∷ []) (headOf 3 ++ twoLevels 2 1 0 2) (s01 ∷ [])
     ∷ cutsOf 2 (s01 ∷ s01 ∷ s10 ∷ []) (s01 ∷ s01 ∷ s1 ∷ [])
-    ∷ numberWith 2 2 (s01 ∷ s01 ∷ s10 ∷ []) 48 0
+    ∷ numberWith 2 2 (s01 ∷ s01 ∷ s10 ∷ []) 56 0
     -- F
-    ∷ searchOf 2 2 (s01 ∷ s00 ∷ s11 ∷ []) (twoLevels 2 1 1 1) []
+    ∷ searchOf 2 2 (s01 ∷ s00 ∷ s11 ∷ []) (headOf 3 ++ twoLevels 2 1 1 1) []
     ∷ cutsOf 2 (s01 ∷ s00 ∷ s11 ∷ []) (s01 ∷ s00 ∷ s1 ∷ [])
-    ∷ numberWith 2 2 (s01 ∷ s00 ∷ s11 ∷ []) 48 0
+    ∷ numberWith 2 2 (s01 ∷ s00 ∷ s11 ∷ []) 56 0
     -- G
-    ∷ searchOf 1 1 [] ((0 ∷ 0 ∷ 0 ∷ 0 ∷ 0 ∷ 2 ∷ 0 ∷ 128 ∷ []) ++ replicate 16 0) []
-    ∷ numberWith 1 1 [] 24 0
+    ∷ searchOf 1 1 [] (headOf 0 ++ (0 ∷ 0 ∷ 0 ∷ 0 ∷ 0 ∷ 2 ∷ 0 ∷ 128 ∷ []) ++ replicate 16 0) []
+    ∷ numberWith 1 1 [] 32 0
+    ∷ numberWith 1 1 [] 31 11
     -- H
     ∷ totalAt keyH (true ∷ []) 1
     ∷ totalAt keyH (false ∷ []) 0
@@ -160,6 +165,6 @@ table =
     ∷ payloadAt keyA (true ∷ []) (modulus - 1) 0
     ∷ payloadAt keyA (true ∷ []) modulus 6
     -- J
-    ∷ numberWith 2 2 (s01 ∷ s01 ∷ s11 ∷ []) 48 0
-    ∷ numberWith 2 2 (s01 ∷ s01 ∷ s11 ∷ []) 47 11
+    ∷ numberWith 2 2 (s01 ∷ s01 ∷ s11 ∷ []) 56 0
+    ∷ numberWith 2 2 (s01 ∷ s01 ∷ s11 ∷ []) 55 11
     ∷ []

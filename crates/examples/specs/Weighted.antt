@@ -1,4 +1,4 @@
--- Examples of weighted searches as one table: document 02, [1].
+-- Examples of weighted searches as one table: document 02, [1] and [4].
 use Prim.Native.Nat.{ℕ, _-_, _≤_}
 use mathlib.Core.Path.{_≡_}
 use mathlib.Core.Bool.{true}
@@ -14,7 +14,7 @@ use Rattle.query.specs.Query.{packs}
 use Rattle.combine.specs.Combine.{combineOutcome}
 use Rattle.search.specs.Search.{Lent, thresholdOf, searchNumber}
 use Rattle.honest.specs.Honest.{Accepted, recordRead, listRead, Honest}
-use Rattle.examples.specs.Marked.{s00, s01, s10, s11}
+use Rattle.examples.specs.Marked.{headOf, s00, s01, s10, s11}
 
 -- A row of the table.
 pub data WeightedRow : Type 0 where
@@ -48,23 +48,30 @@ savers = s00 ∷ s01 ∷ s10 ∷ s11 ∷ []
 abbrev pub savings : List ℤ
 savings = negsuc 6 ∷ pos 5 ∷ pos 3 ∷ negsuc 0 ∷ []
 
--- a record of two levels: `0` and `1` with their totals, then `10` and `11` with theirs
+-- what follows the number of reports in a record of one level: `0` and `1` with their totals
+abbrev pub oneLevel : ℕ → ℕ → List ℕ
+oneLevel a b = (0 ∷ 0 ∷ 0 ∷ 0 ∷ 0 ∷ 2 ∷ 0 ∷ 128 ∷ []) ++ little 8 a ++ little 8 b
+
+-- what follows the number of reports in a record of two levels: `0` and `1` with their totals, then `10` and `11` with theirs
 abbrev pub twoLevelsOf1 : ℕ → ℕ → ℕ → ℕ → List ℕ
 twoLevelsOf1 a b c d =
-    (0 ∷ 0 ∷ 0 ∷ 0 ∷ 0 ∷ 2 ∷ 0 ∷ 128 ∷ []) ++ little 8 a ++ little 8 b ++ (0 ∷ 1 ∷ 0 ∷ 0 ∷ 0 ∷ 2 ∷ 128 ∷ 192 ∷ []) ++ little 8 c ++ little 8 d
+    oneLevel a b ++ (0 ∷ 1 ∷ 0 ∷ 0 ∷ 0 ∷ 2 ∷ 128 ∷ 192 ∷ []) ++ little 8 c ++ little 8 d
 
 -- the examples
 abbrev pub weightedTable : List WeightedRow
 weightedTable =
     -- negative totals stand in the record as group numbers, and `01` is not in the list, heavy under a light parent
-    weightedSearch 2 2 savers savings (twoLevelsOf1 (modulus - 2) 2 3 (modulus - 1)) (s10 ∷ [])
-    ∷ acceptedIn 2 2 savers savings 66 4
+    weightedSearch 2 2 savers savings (headOf 4 ++ twoLevelsOf1 (modulus - 2) 2 3 (modulus - 1)) (s10 ∷ [])
+    ∷ acceptedIn 2 2 savers savings 74 4
     ∷ heldAt savers savings s01 (pos 5)
     ∷ heldAt savers savings (true ∷ []) (pos 2)
     -- the greatest threshold is reached by no two weights
     ∷ weightedSearch 1 2147483647 ((true ∷ []) ∷ (true ∷ []) ∷ []) (pos 32767 ∷ pos 32767 ∷ [])
-    ((0 ∷ 0 ∷ 0 ∷ 0 ∷ 0 ∷ 2 ∷ 0 ∷ 128 ∷ []) ++ little 8 0 ++ little 8 65534) []
-    ∷ acceptedIn 1 2147483647 ((true ∷ []) ∷ (true ∷ []) ∷ []) (pos 32767 ∷ pos 32767 ∷ []) 24 0
+    (headOf 2 ++ oneLevel 0 65534) []
+    ∷ acceptedIn 1 2147483647 ((true ∷ []) ∷ (true ∷ []) ∷ []) (pos 32767 ∷ pos 32767 ∷ []) 32 0
+    -- where weights cancel, the number of reports is all that tells these from none
+    ∷ weightedSearch 1 1 ((true ∷ []) ∷ (true ∷ []) ∷ []) (pos 5 ∷ negsuc 4 ∷ []) (headOf 2 ++ oneLevel 0 0) []
+    ∷ weightedSearch 1 1 [] [] (headOf 0 ++ oneLevel 0 0) []
     -- the bounds of a weighted threshold
     ∷ refusedWith 0 12
     ∷ refusedWith 2147483648 12

@@ -5,16 +5,20 @@ use mathlib.Core.Logic.{_↔_}
 use mathlib.Core.List.{List, _++_, append-assoc}
 use Prim.Native.Nat.{ℕ, _^_, _≤_, _<_}
 use native.Mathlib.Omega.{arith}
-use lib.ListN.{length}
+use lib.ListN.{length, take}
+use lib.Seq.{take-at}
 use lib.IntN.{ℤ}
 use Rattle.bits.specs.Strings.{Bits}
+use Rattle.numbers.specs.Numbers.{big}
+use Rattle.numbers.proofs.Endian.{big-length}
 use Rattle.kept.specs.Kept.{reachesAs}
 use Rattle.point.specs.PublicShare.{joined}
 use Rattle.weights.specs.Weights.{EveryOne}
 use Rattle.query.specs.Query.{OfLength, packs, query, children}
-use Rattle.tree.specs.SearchRule.{start, totals, level, heading, searchRecord, searchList}
+use Rattle.tree.specs.SearchRule.{start, totals, level, heading, headingLength, searchRecord, searchList}
 use Rattle.tree.specs.Cut.{honestRecord, cuts, Rearranged}
 use Rattle.tree.proofs.Demands.{records-tell-cuts, records-tell-lists}
+use Rattle.tree.proofs.Lengths.{record-length}
 use Rattle.tree.proofs.Steps as steps
 use Rattle.search.specs.Search.{Lent, countedNumber, thresholdOf, reachesOf, total, recordBytes, listBytes, recordLength}
 use Rattle.search.proofs.Outcome.{accepted-clear}
@@ -62,8 +66,17 @@ records-lists s u bits weighted threshold ok ok′ same =
 pub record-inside : (s : Lent) → Accepted s → (length (recordRead s) ≡ recordLength s) × (recordLength s ≤ length (s .recordArea))
 record-inside s ok = record-whole s ok
 
--- Whatever reports were lent, the record of an accepted search begins with the first query, for `0` and `1`, and its two totals; nothing stands
--- before them today, as `heading` is empty.
+-- Whatever reports were lent, the record of an accepted search begins with the number of reports that were counted, as 8 bytes, big-endian;
+pub record-reports : (s : Lent) → Accepted s → take 8 (recordRead s) ≡ big 8 (countedNumber s)
+unfolding recordBytes searchRecord
+record-reports s ok = ap (take 8) (record-read s ok) ∙ take-at (big 8 (countedNumber s)) _ 8 (big-length 8 (countedNumber s))
+
+-- so it has at least these bytes;
+pub record-headed : (s : Lent) → Accepted s → headingLength ≤ length (recordRead s)
+unfolding recordBytes
+record-headed s ok = omega (arith, ap length (record-read s ok), record-length (reachesOf s) (total s) (countedNumber s) (s .n))
+
+-- behind them stand the first query, for `0` and `1`, and its two totals.
 pub record-begins : (s : Lent) → Accepted s
     → (rest : List ℕ) × (recordRead s ≡ heading (countedNumber s) ++ (query 0 (children start) ++ (totals (total s) (children start) ++ rest)))
 unfolding recordBytes
@@ -71,7 +84,7 @@ record-begins s ok =
     let begins = steps.record-begins (reachesOf s) (total s) (countedNumber s) (s .n) (accepted-clear s ok .sound .some-bits) in
     (_, record-read s ok ∙ begins ∙ ap (λ (r : List ℕ). heading (countedNumber s) ++ r) (append-assoc (query 0 (children start)) (totals (total s) (children start)) _))
 
--- Whatever reports were lent, the record of an accepted search is each query followed by its totals, level by level.
+-- Whatever reports were lent, the record of an accepted search is the number of reports, and each query followed by its totals, level by level.
 pub record-levels : (s : Lent) → Accepted s
     → recordRead s ≡ heading (countedNumber s) ++ joined (s .n) (λ k. level (total s) k (children (searchList (reachesOf s) (total s) k)))
 unfolding recordBytes searchRecord

@@ -126,7 +126,7 @@ module _ (s : Lent) (passes : Passes s) where
         go zero e h = absurd (omega (arith, e, passing s passes .some-bits))
         go (suc m) e h = play s (passing s passes) m 0 start (omega (arith, e)) (omega arith) (refl, tt) (tt, tt) h
 
-    -- The record and the list of the search are what the calls leave in at most n rounds from the first query on.
+    -- The list of the search and, behind the number of reports, its record are what the calls leave in at most n rounds from the first query on.
     pub search-played : (recordBytes s ≡ heading (countedNumber s) ++ played s (s .n) firstQuery .recorded) × (listBytes s ≡ played s (s .n) firstQuery .listed)
     unfolding recordBytes listBytes searchRecord searchList
     search-played = (
@@ -134,7 +134,7 @@ module _ (s : Lent) (passes : Passes s) where
       ap (λ (o : Played). o .listed) (sym all-played),
     )
 
--- So the record and the list that an accepted search leaves are those that the calls leave.
+-- So the list that an accepted search leaves and, behind the number of reports, its record are those that the calls leave.
 pub accepted-played : (s : Lent) → Accepted s
     → (recordRead s ≡ heading (countedNumber s) ++ played s (s .n) firstQuery .recorded) × (listRead s ≡ played s (s .n) firstQuery .listed)
 accepted-played s ok =

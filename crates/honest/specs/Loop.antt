@@ -27,7 +27,7 @@ Passes s = (searchNumber s ≡ 0) ⊎ (searchNumber s ≡ 11)
 abbrev pub firstQuery : List ℕ
 firstQuery = query 0 (children start)
 
--- What the calls leave: the record, each query followed by its totals; and the list.
+-- What the calls leave: of the record each query followed by its totals; and the list.
 pub record Played : Type 0 where
   pub recorded : List ℕ
   pub listed : List ℕ

@@ -1,4 +1,4 @@
-// The levels of a search: each query and its totals into the record area, which is the only workspace, and the list.
+// The levels of a search: the number of reports, and each query with its totals, into the record area, which is the only workspace; and the list.
 mod children;
 mod descent;
 mod heavy;
@@ -20,7 +20,8 @@ pub struct LevelsReply {
     pub list_length: u64,
 }
 
-// Searches level by level, from the first, 0, to `last`, for strings of last + 1 bits; where there is no room, the area becomes zero.
+// Writes the number of reports and searches level by level, from the first, 0, to `last`, for strings of last + 1 bits; where there is no room, the area
+// becomes zero.
 pub fn run(
     e: Expander,
     last: u8,

@@ -1,4 +1,4 @@
--- The call `search`: document 01, 'The search' and 'Causes of refusal', and document 02, [1].
+-- The call `search`: document 01, 'The search' and 'Causes of refusal', and document 02, [1] and [4].
 use Prim.Native.Nat.{ℕ, _/_, _<_}
 use mathlib.Core.Bool.{Bool, true, false, cond, not, _&&_, _||_}
 use mathlib.Core.List.{List, [], _∷_, _++_}
@@ -75,7 +75,7 @@ totalUnder Unknown s q = 0
 abbrev pub total : Lent → Bits → ℕ
 total s = totalUnder (choiceOf (s .expander)) s
 
--- the record: each query followed by its totals
+-- the record: C, and each query followed by its totals
 unfoldable pub recordBytes : Lent → List ℕ
 recordBytes s = searchRecord (reachesOf s) (total s) (countedNumber s) (s .n)
 

@@ -15,8 +15,8 @@ pub struct Found {
     pub list_length: u64,
 }
 
-// Searches: writes the record, each query followed by its totals, and the list of the kept strings of n bits; refuses with 1 to 8, with 12 in the place
-// of 2 where the search is weighted, or with 11, when the record area becomes zero.
+// Searches: writes the record, the number of reports and then each query followed by its totals; and the list of the kept strings of n bits; refuses
+// with 1 to 8, with 12 in the place of 2 where the search is weighted, or with 11, when the record area becomes zero.
 pub fn search(
     n: u64,
     weighted: bool,

@@ -1,12 +1,10 @@
 // How much space is enough for the record and the list of a search over honest reports.
 use bits::packed_length;
+use tree::HEADING_LENGTH;
 ghost use mathlib.Core.Path.{_≡_};
 ghost use Prim.Native.Nat.{_-_, _≤_, _<_, min};
 ghost use Rattle.tree.specs.Space.{levelLength, spaceFrom, fewestHolders};
 ghost use Rattle.space.specs.SearchSpace.{outsideBounds, namedRecordSpace, namedListSpace};
-
-// How many bytes stand before the first query of a record.
-const HEADING_LENGTH: usize = 0;
 
 // Whether n, t or the number of reports is outside its bounds.
 fn outside_bounds(n: u64, weighted: bool, t: u64, reports: u64) -> bool

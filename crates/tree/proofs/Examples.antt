@@ -1,14 +1,15 @@
--- Computed facts that pin the definitions: the first query, cut strings, searches that end, and space.
+-- Computed facts that pin the definitions: the first query, cut strings, searches that end, the number of reports in the record, and space.
 use Prim.Native.Nat.{zero, suc}
 use native.Mathlib.Omega.{arith}
 use mathlib.Core.Path.{_≡_, refl, ap}
 use mathlib.Core.Bool.{true, false}
-use mathlib.Core.List.{List, [], _∷_}
-use lib.ListN.{length}
+use mathlib.Core.List.{List, [], _∷_, _++_}
+use lib.ListN.{length, replicate}
 use lib.Dec.{leb}
 use Rattle.bits.specs.Strings.{Bits, count}
+use Rattle.numbers.specs.Numbers.{big}
 use Rattle.query.specs.Query.{children}
-use Rattle.tree.specs.SearchRule.{start, Ended}
+use Rattle.tree.specs.SearchRule.{start, heading, Ended}
 use Rattle.tree.specs.Cut.{cut, cuts, Rearranged}
 use Rattle.tree.specs.Space.{levelLength, spaceFrom, fewestHolders, recordSpace, listSpace}
 
@@ -49,15 +50,30 @@ F-not-ended (suc (suc k), h, e) = omega arith
 pub G-ended : Ended (leb 1) (count []) 2
 G-ended = (1, omega arith, refl)
 
+-- ---- the number of reports before the first query
+
+-- of no reports, eight zero bytes; of D's three; and of 256, whose bytes are not all alike
+pub heading-of-none : heading 0 ≡ replicate 8 0
+unfolding big
+heading-of-none = refl
+
+pub heading-of-three : heading 3 ≡ replicate 7 0 ++ 3 ∷ []
+unfolding big
+heading-of-three = refl
+
+pub heading-of-256 : heading 256 ≡ replicate 6 0 ++ 1 ∷ 0 ∷ []
+unfolding big
+heading-of-256 = refl
+
 -- ---- space
 
 -- The exam program's longest record and list: 32 bits, 32 reports, threshold 1.
-pub exam-space : (recordSpace 32 1 32 ≡ 19374) × (listSpace 32 1 32 ≡ 128)
+pub exam-space : (recordSpace 32 1 32 ≡ 19382) × (listSpace 32 1 32 ≡ 128)
 unfolding recordSpace spaceFrom levelLength listSpace
 exam-space = (refl, refl)
 
 -- D's record takes all of its space.
-pub D-space : recordSpace 2 2 3 ≡ 48
+pub D-space : recordSpace 2 2 3 ≡ 56
 unfolding recordSpace spaceFrom levelLength
 D-space = refl
 

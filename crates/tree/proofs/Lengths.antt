@@ -9,7 +9,7 @@ use lib.ListN.{length, length-append, length-map}
 use Rattle.places.specs.Lists.{select}
 use Rattle.bits.specs.Strings.{Bits, count}
 use Rattle.bits.specs.Packing.{packedLength}
-use Rattle.numbers.proofs.Endian.{inBytes-length}
+use Rattle.numbers.proofs.Endian.{inBytes-length, big-length}
 use Rattle.kept.specs.Kept.{reaches}
 use Rattle.query.specs.Query.{OfLength, packs, query, children}
 use Rattle.tree.specs.SearchRule.{start, totals, level, recordFrom, heading, headingLength, isKept, searchRecord, searchList}
@@ -34,8 +34,7 @@ level-length T k (q ∷ qs) a =
     length-append (query k (q ∷ qs)) (totals T (q ∷ qs)) ∙ omega (arith, query-length k (q ∷ qs) a, totals-length T (q ∷ qs))
 
 pub heading-length : (C : ℕ) → length (heading C) ≡ headingLength
-unfolding heading
-heading-length C = refl
+heading-length C = big-length 8 C
 
 module _ (keeps : Bits → Bool) where
   -- what m levels below the prefixes ps of k bits add to the record
@@ -152,7 +151,8 @@ space-product w (suc m) k n l =
     level-most k zero = omega arith
     level-most k (suc c) = omega arith
 
--- The record of an honest search takes at most 24 bytes for the first query and 6 + 2 × (C / t) × (⌈n ÷ 8⌉ + 8) for each later one.
+-- The record of an honest search takes 8 bytes for the number of reports, 24 for the first query with its totals, and at most 6 + 2 × (C / t) × (⌈n ÷ 8⌉ + 8)
+-- for each later one.
 pub record-space-product : (n t C : ℕ) → recordSpace (suc n) t C ≤ headingLength + (24 + n * (6 + 2 * (C / t) * (packedLength (suc n) + 8)))
 unfolding recordSpace levelLength
 record-space-product n t C = omega (arith, space-product (C / t) n 1 (suc n) (omega arith))

@@ -12,7 +12,7 @@ use Rattle.places.specs.Places.{putAt}
 use Rattle.query.specs.Query.{packs}
 use Rattle.query.proofs.Pieces.{numbersAt}
 use Rattle.kept.proofs.Onward.{keptAt}
-use Rattle.tree.specs.SearchRule.{start, totals, keptFrom, fitsFrom, recordFrom, isKept}
+use Rattle.tree.specs.SearchRule.{start, totals, keptFrom, fitsFrom, recordFrom, heading, isKept}
 
 -- ---- one level
 
@@ -79,7 +79,7 @@ module _ (enough : ℕ → Bool) (T : Bits → ℕ) where
   abbrev pub AnsweredBelow : ℕ → ℕ → List Bits → ℕ → List ℕ → List ℕ → List ℕ → List ℕ → ℕ → ℕ → ℕ → Type 0
   AnsweredBelow m k qs = Answered (recordLeft m k qs) (listLeft m qs) (queriesLeft m qs)
 
-  -- how a whole search for strings of n bits ends
-  abbrev pub AnsweredAll : ℕ → List ℕ → List ℕ → List ℕ → List ℕ → ℕ → ℕ → ℕ → Type 0
-  AnsweredAll n =
-      Answered (recordFrom (isKept enough T) T n 0 start) (packs (keptFrom (isKept enough T) n start)) (fitsFrom (isKept enough T) n start) 0
+  -- how a whole search over C reports for strings of n bits ends
+  abbrev pub AnsweredAll : ℕ → ℕ → List ℕ → List ℕ → List ℕ → List ℕ → ℕ → ℕ → ℕ → Type 0
+  AnsweredAll C n =
+      Answered (heading C ++ recordFrom (isKept enough T) T n 0 start) (packs (keptFrom (isKept enough T) n start)) (fitsFrom (isKept enough T) n start) 0

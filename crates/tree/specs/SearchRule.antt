@@ -1,4 +1,4 @@
--- Document 01, 'The search': the search rule, over any totals and any test of a total.
+-- Document 01, 'The search': the search rule, over any totals and any test of a total; document 02, [4]: the record begins with the number of reports.
 use Prim.Native.Nat.{ℕ, zero, suc, _<_}
 use mathlib.Core.Path.{_≡_}
 use mathlib.Core.Bool.{Bool, true, _&&_}
@@ -7,7 +7,7 @@ use lib.ListN.{length}
 use lib.Dec.{leb}
 use Rattle.places.specs.Lists.{select}
 use Rattle.bits.specs.Strings.{Bits}
-use Rattle.numbers.specs.Numbers.{inBytes}
+use Rattle.numbers.specs.Numbers.{big, inBytes}
 use Rattle.query.specs.Query.{query, children, limit}
 
 -- the empty prefix, from which a search goes down
@@ -40,13 +40,13 @@ module _ (keeps : Bits → Bool) where
   recordFrom T zero k ps = []
   recordFrom T (suc m) k ps = level T k (children ps) ++ recordFrom T m (suc k) (select keeps (children ps))
 
--- what stands before the first query in the record of C reports: nothing
-unfoldable pub heading : ℕ → List ℕ
-heading C = []
+-- what stands before the first query in the record of C reports: C as 8 bytes, big-endian
+abbrev pub heading : ℕ → List ℕ
+heading C = big 8 C
 
 -- how many bytes that is
 abbrev pub headingLength : ℕ
-headingLength = 0
+headingLength = 8
 
 -- A search for strings of n bits with the totals T; `enough` tells whether a total is at least the threshold.
 module _ (enough : ℕ → Bool) (T : Bits → ℕ) where

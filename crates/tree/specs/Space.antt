@@ -18,8 +18,8 @@ spaceFrom w (suc m) k = levelLength k (min (2 ^ suc k) (2 * w)) + spaceFrom w m 
 abbrev pub fewestHolders : Bool → ℕ → ℕ
 fewestHolders weighted t = cond weighted ((t + 32766) / 32767) t
 
--- the record of a search for strings of n bits and C reports where at least h hold each kept prefix: two prefixes first, and at most ⌊C ÷ h⌋ are
--- kept of each length
+-- the record of a search for strings of n bits and C reports where at least h hold each kept prefix: the number of reports, then two prefixes, and at
+-- most ⌊C ÷ h⌋ are kept of each length
 unfoldable pub recordSpace : ℕ → ℕ → ℕ → ℕ
 recordSpace zero h C = headingLength
 recordSpace (suc n) h C = headingLength + (levelLength 0 2 + spaceFrom (C / h) n 1)

@@ -111,20 +111,20 @@ fn example(label: &[u8], expander: u64, strings: [u8; 3], record: &mut [u8]) {
 
 // Examples D, E, F and J.
 pub(crate) fn examples(expander: u64) {
-    let mut record = [255u8; 48];
+    let mut record = [255u8; 56];
     example(b"D", expander, [0x40u8, 0x40u8, 0xc0u8], &mut record);
     example(b"E", expander, [0x40u8, 0x40u8, 0x80u8], &mut record);
     example(b"F", expander, [0x40u8, 0x00u8, 0xc0u8], &mut record);
-    let mut short = [255u8; 47];
+    let mut short = [255u8; 55];
     example(b"J", expander, [0x40u8, 0x40u8, 0xc0u8], &mut short);
     io::write_all(OUT, b"search record area");
-    bytes(&short, 47);
+    bytes(&short, 55);
     io::write_all(OUT, b"\n");
 }
 
 // A search of one report of 1 bit under expander 2, with t = 1.
 fn one_report(label: &[u8], share: &[u8], seed0: [u8; 16], seed1: [u8; 16]) {
-    let mut record = [255u8; 24];
+    let mut record = [255u8; 32];
     let mut list = [255u8; 2];
     let found = search::search(
         1,
@@ -160,7 +160,7 @@ pub(crate) fn one_bit() {
 // A search of no reports, weighted or not, with room for two totals.
 pub(crate) fn bounds(label: &[u8], n: u64, weighted: bool, t: u64) {
     let none = [0u8; 0];
-    let mut record = [255u8; 24];
+    let mut record = [255u8; 32];
     let mut list = [255u8; 1];
     let found = search::search(
         n,
@@ -181,7 +181,7 @@ pub(crate) fn bounds(label: &[u8], n: u64, weighted: bool, t: u64) {
 pub(crate) fn longest(expander: u64, string: &[u8], seed0: &[u8], seed1: &[u8]) {
     let mut share = [0u8; 6208];
     keymaker::make_key(256, expander, 1, string, seed0, seed1, &mut share);
-    let mut record = [0u8; 14080];
+    let mut record = [0u8; 14088];
     let mut list = [0u8; 32];
     let found = search::search(
         256,
@@ -213,7 +213,7 @@ pub(crate) fn weighted() {
     let mut seeds1 = [0u8; 64];
     put_seeds(&mut seeds0, 1, 3, 5, 7);
     put_seeds(&mut seeds1, 2, 4, 6, 8);
-    let mut record = [255u8; 48];
+    let mut record = [255u8; 56];
     let mut list = [255u8; 1];
     let found = search::search(
         2,

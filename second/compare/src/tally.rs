@@ -7,7 +7,7 @@ use std::fmt::Display;
 /// Bytes after every lent space that no call may touch.
 const GUARD: usize = 24;
 
-/// A space filled with a pattern before the call.
+/// A space filled with a pattern before the call, without zero bytes.
 pub struct Space {
     bytes: Vec<u8>,
     lent: usize,
@@ -15,8 +15,8 @@ pub struct Space {
 
 impl Space {
     pub fn new(lent: usize, salt: u64) -> Space {
-        let salt = salt as u8 | 1;
-        let pattern = |i: usize| (i as u8).wrapping_mul(31).wrapping_add(salt);
+        let salt = salt as u8;
+        let pattern = |i: usize| (i as u8).wrapping_mul(31).wrapping_add(salt).max(1);
         Space {
             bytes: (0..lent + GUARD).map(pattern).collect(),
             lent,

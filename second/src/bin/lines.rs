@@ -41,7 +41,7 @@ fn main() {
 
 /// A search of no reports, weighted or not, with room for two totals.
 fn bounds(label: &str, n: u64, weighted: bool, t: u64) {
-    let mut record = [255u8; 24];
+    let mut record = [255u8; 32];
     let mut list = [255u8; 1];
     let found = search(
         n,
@@ -81,7 +81,7 @@ fn weighted_search() {
         seeds1.extend(seed1);
         shares.extend(public);
     }
-    let mut record = [255u8; 48];
+    let mut record = [255u8; 56];
     let mut list = [255u8; 1];
     let found = search(
         2,
@@ -118,10 +118,10 @@ fn seeds(first: u64) -> Vec<u8> {
 fn examples(expander: u64) {
     let (seeds0, seeds1) = (seeds(0xfedc_ba98_7654_3210), seeds(0x0123_4567_89ab_cdef));
     for (label, strings, room) in [
-        ("D", [0x40u8, 0x40, 0xc0], 48),
-        ("E", [0x40, 0x40, 0x80], 48),
-        ("F", [0x40, 0x00, 0xc0], 48),
-        ("J", [0x40, 0x40, 0xc0], 47),
+        ("D", [0x40u8, 0x40, 0xc0], 56),
+        ("E", [0x40, 0x40, 0x80], 56),
+        ("F", [0x40, 0x00, 0xc0], 56),
+        ("J", [0x40, 0x40, 0xc0], 55),
     ] {
         let mut shares = vec![0u8; 147];
         for (i, string) in strings.into_iter().enumerate() {
@@ -174,7 +174,7 @@ fn one_bit() {
         if let Some(payload) = payload {
             public[17..].copy_from_slice(&payload.to_le_bytes());
         }
-        let mut record = [255u8; 24];
+        let mut record = [255u8; 32];
         let mut list = [255u8; 2];
         let found = search(
             1,
@@ -203,7 +203,7 @@ fn longest(expander: u64) {
     let seed1: Vec<u8> = (16..32).collect();
     let mut share = vec![0u8; public_share_size(256)];
     key(256, expander, 1, &string, &seed0, &seed1, &mut share);
-    let mut record = vec![0u8; 14_080];
+    let mut record = vec![0u8; 14_088];
     let mut list = [0u8; 32];
     let found = search(
         256,

@@ -80,7 +80,7 @@ fn refused_between(keeper: &mut Keeper, query: &[u8]) {
 fn kept_search(of: &Reports, weighted: bool, t: u64) -> (Vec<u8>, Vec<u8>) {
     let lent = of.count().max(1) * 64;
     let mut keepers = [false, true].map(|server| Keeper::new(of, server, lent));
-    let (mut query, mut record) = (first(), vec![]);
+    let (mut query, mut record) = (first(), (of.count() as u64).to_be_bytes().to_vec());
     loop {
         let [share0, share1] = keepers.each_mut().map(|keeper| {
             refused_between(keeper, &query);
@@ -174,9 +174,10 @@ fn example_d() {
     for expander in [1, 2] {
         let of = honest(&mut rng, 2, expander, &weighed);
         let (record, list) = kept_search(&of, false, 2);
-        assert_eq!((record.len(), &list[..]), (48, &[0x40][..]));
-        assert_eq!(record[..8], first());
+        assert_eq!((record.len(), &list[..]), (56, &[0x40][..]));
+        assert_eq!(record[..8], [0, 0, 0, 0, 0, 0, 0, 3]);
+        assert_eq!(record[8..16], first());
         let totals = |at: usize| [at, at + 8].map(|at| record[at]);
-        assert_eq!([totals(8), totals(32)], [[2, 1], [0, 2]]);
+        assert_eq!([totals(16), totals(40)], [[2, 1], [0, 2]]);
     }
 }

@@ -4,7 +4,7 @@ use mathlib.Core.Bool.{true, false}
 use mathlib.Core.List.{List}
 use Prim.Native.Nat.{ℕ, _*_, _≤_}
 use native.Mathlib.Omega.{arith}
-use lib.ListN.{length, take}
+use lib.ListN.{length, take, drop}
 use lib.Seq.{length-take-le}
 use Rattle.places.specs.Places.{overlay}
 use Rattle.expander.specs.Expander.{isExpander}
@@ -13,10 +13,11 @@ use Rattle.search.specs.Search.{Lent, lent}
 use Rattle.honest.specs.Honest.{Accepted, recordRead, listRead}
 use Rattle.exam_text.specs.Sheet.{Sheet, expanderNumber, Within}
 use Rattle.exam_text.specs.Reader.{sheetOf}
-use Rattle.exam_text.proofs.Records.{Rounds}
 use Rattle.exam_text.proofs.ReaderExact.{sheet-within}
 use Rattle.exam_reports.specs.SheetReports.{seeds0Of, seeds1Of, publicSharesOf}
 use Rattle.exam_reports.proofs.SheetMaking.{reports-stand, reports-read}
+use Rattle.exam_text.proofs.Records.{Rounds}
+use Rattle.tree.specs.SearchRule.{headingLength}
 use Rattle.exam_answering.specs.Printing.{printed, roundLength}
 use Rattle.exam_answering.specs.SheetSearch.{sheetSearch, searchedText}
 use Rattle.exam_answering.proofs.Longest.{answer-most}
@@ -53,7 +54,7 @@ asked s = sheetSearch (sheet s) (s .args .area .now) (s .args .list .now)
 accepted : (s : tie.Start) → Accepted (asked s)
 accepted s = sheet-accepted (sheet s) (within s) (from s) (known s) (s .args .area .now) (s .args .list .now) (least s) (most s) (s .pre .1 .1 .3) (s .pre .1 .1 .4)
 
-rounds : (s : tie.Start) → Rounds roundLength (sheet s .n) (recordRead (asked s))
+rounds : (s : tie.Start) → Rounds roundLength (sheet s .n) (drop headingLength (recordRead (asked s)))
 rounds s = sheet-rounds (sheet s) (within s) (from s) (known s) (s .args .area .now) (s .args .list .now) (least s) (most s) (s .pre .1 .1 .3) (s .pre .1 .1 .4)
 
 fits : (s : tie.Start) → length (searchedText (sheet s) (s .args .area .now) (s .args .list .now)) ≤ 43232
@@ -143,8 +144,8 @@ search-printed-requires c κs =
     let same = sym (same-search k) in (
       (s .pre .0 .1, s .pre .0 .2, subst Accepted same (accepted s)),
       (
-        subst (λ (q : Lent). Rounds roundLength (s .args .n) (recordRead q)) same
-            (subst (λ (n : ℕ). Rounds roundLength n (recordRead (asked s))) (sym (s .pre .1 .0 .0)) (rounds s)),
+        subst (λ (q : Lent). Rounds roundLength (s .args .n) (drop headingLength (recordRead q))) same
+            (subst (λ (n : ℕ). Rounds roundLength n (drop headingLength (recordRead (asked s)))) (sym (s .pre .1 .0 .0)) (rounds s)),
         subst (λ (bytes : List ℕ). length bytes ≤ length (s .args .out .now)) (sym (same-text k)) (omega (arith, fits s, s .pre .1 .1 .5)),
       ),
     )

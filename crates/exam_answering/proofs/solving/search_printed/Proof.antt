@@ -10,6 +10,7 @@ use Rattle.levels.specs.Levels.{Ending}
 use Rattle.search.specs.Search.{Lent, lent, recordLength, listLength}
 use Rattle.honest.specs.Honest.{recordRead, listRead}
 use Rattle.honest.proofs.Reading.{record-whole, list-whole}
+use Rattle.honest.proofs.Demand3.{record-headed}
 use Rattle.exam_answering.specs.Printing.{printed}
 use borrow.Author.Needs.{needs}
 use Rattle.exam_answering.proofs.solving.search_printed.Statement.{statement}
@@ -71,8 +72,13 @@ slice-aggregate-print-2 c = sym (list-size (c .before .before .before .before .b
 print-requires : tie.Need-print-requires
 print-requires c κs =
     let k = c .before .before .before .before .before .before .before in
-    let s = start k in
-    (s .pre .0 .0, omega (arith, s .pre .0 .1), rw (record-is k) (s .pre .1 .0), rw (record-is k, list-is k) (s .pre .1 .1))
+    let s = start k in (
+      s .pre .0 .0,
+      omega (arith, s .pre .0 .1),
+      rw (record-is k) (record-headed (asked k) (s .pre .0 .2)),
+      rw (record-is k) (s .pre .1 .0),
+      rw (record-is k, list-is k) (s .pre .1 .1),
+    )
 
 returns : tie.Need-returns
 returns c =

@@ -35,7 +35,7 @@ zeros n = length-replicate {A = ℕ} n 0
 print-answer-requires : tie.Need-print-answer-requires
 print-answer-requires c κs =
     let s = c .before .before .before .before .before .before .before .before in
-    (s .pre .0, (s .pre .1, (zeros 512, zeros 512, zeros 24832, zeros 19374, zeros 128, zeros 43232)))
+    (s .pre .0, (s .pre .1, (zeros 512, zeros 512, zeros 24832, zeros 19382, zeros 128, zeros 43232)))
 
 slice-aggregate-write-text : tie.Need-slice-aggregate-write-text
 slice-aggregate-write-text c = let p = c .before .before .before .before .before .before .before in size-is p ∙ sym (ap length (printed-is p))

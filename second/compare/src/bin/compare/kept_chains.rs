@@ -224,7 +224,8 @@ fn search(
     let mut lists = sides
         .each_ref()
         .map(|side| at_the_roots(rng, tally, side, lent));
-    let (mut query, mut kept_record) = (first(), Vec::new());
+    let head = (of.strings.len() as u64).to_be_bytes();
+    let (mut query, mut kept_record) = (first(), head.to_vec());
     let kept_list = loop {
         let shares = [0, 1].map(|b| {
             let name = if weighted {

@@ -13,6 +13,8 @@ mod blocks;
 mod combine_cases;
 #[cfg(feature = "combine")]
 mod combines;
+#[cfg(feature = "search")]
+mod equal_totals;
 #[cfg(feature = "exam")]
 mod exam_cases;
 #[cfg(feature = "exam")]
@@ -39,6 +41,8 @@ mod search_call;
 mod search_cases;
 #[cfg(feature = "search")]
 mod search_demands;
+#[cfg(feature = "search")]
+mod search_heads;
 #[cfg(feature = "search")]
 mod searches;
 #[cfg(feature = "keys")]

@@ -1,4 +1,5 @@
-//! Fixed calls of the whole unweighted search, each with what it must give where document 01 says it.
+//! Fixed calls of the whole unweighted search, each with what it must give where documents 01 and 02
+//! say it.
 //!
 //! Honest reports of few and many bits; the sheet's A and D to J; areas around the fit; totals of
 //! any size, light parents of heavy children; every byte of a report changed; hostile reports;
@@ -97,7 +98,8 @@ impl Search {
     /// The search of a call of such reports.
     pub fn of(call: Call, reports: &[Report]) -> Search {
         let (n, t) = (call.n as usize, call.t);
-        let (mut record, mut ends, mut list) = (Vec::new(), Vec::new(), Vec::new());
+        let mut record = (reports.len() as u64).to_be_bytes().to_vec();
+        let (mut ends, mut list) = (Vec::new(), Vec::new());
         let mut nodes = 0;
         let mut asked = vec![vec![false], vec![true]];
         for length in 1..=n {
@@ -228,14 +230,16 @@ pub fn give_totals(one: &mut Reports, expander: u64, totals: &[u64]) {
 /// Bytes of the record and the list when every prefix is kept.
 pub fn whole_tree(n: usize) -> (usize, usize) {
     let level = |length: usize| 6 + ((packed_size(length) + 8) << length);
-    ((1..=n).map(level).sum(), packed_size(n) << n)
+    let levels: usize = (1..=n).map(level).sum();
+    (8 + levels, packed_size(n) << n)
 }
 
-/// The record of the queries `0`, `1` and `00`, `01`.
+/// The record of three reports with the queries `0`, `1` and `00`, `01`.
 fn record_of(totals: [u64; 4]) -> Vec<u8> {
     let numbers = |two: &[u64]| -> Vec<u8> { two.iter().flat_map(|x| x.to_le_bytes()).collect() };
     let second = write(2, &[vec![0x00], vec![0x40]]);
     [
+        vec![0, 0, 0, 0, 0, 0, 0, 3],
         first(),
         numbers(&totals[..2]),
         second,
@@ -255,23 +259,23 @@ fn sheet(rng: &mut Rng, expander: u64, take: Take) {
         for kind in 0..2 * KINDS {
             let search = Search::made(rng, 2, 2, expander, &reports, kind);
             assert_eq!((&search.record, &search.list), (&record_of(totals), &list));
-            assert_eq!(search.record.len(), 48);
-            for (record_room, list_room) in
-                [(48, 1), (48, 0), (60, 9), (47, 1), (47, 0), (0, 9), (0, 0)]
-            {
+            assert_eq!(search.record.len(), 56);
+            let mut rooms = vec![(56, 1), (56, 0), (68, 9), (55, 1), (55, 0), (0, 9), (0, 0)];
+            rooms.extend([7, 8, 9, 31, 32, 33, 47, 48].map(|room| (room, 1)));
+            for (record_room, list_room) in rooms {
                 let (wanted, call) = search.with_areas(record_room, list_room);
                 take(name, wanted, call);
             }
         }
     }
     let none = Call::of(Reports::none(1), 1, expander);
-    for (record_room, list_room) in [(24, 0), (30, 7), (23, 0), (23, 7), (0, 0)] {
+    for (record_room, list_room) in (0..40).map(|room| (room, 0)).chain([(31, 7), (38, 7)]) {
         let mut call = none.clone();
         (call.record_room, call.list_room) = (record_room, list_room);
-        let wanted = if record_room < 24 {
+        let wanted = if record_room < 32 {
             Wanted::Refused(11)
         } else {
-            Wanted::Found([first(), vec![0; 16]].concat(), vec![])
+            Wanted::Found([vec![0; 8], first(), vec![0; 16]].concat(), vec![])
         };
         take("G", wanted, call);
     }
@@ -280,7 +284,7 @@ fn sheet(rng: &mut Rng, expander: u64, take: Take) {
         let search = Search::made(rng, 1, 1, expander, &report, kind);
         search.take_with(name, 0, take);
         for number in [P - 1, P, P + 1, u64::MAX] {
-            let mut call = search.with_areas(24, 2).1;
+            let mut call = search.with_areas(32, 2).1;
             for public in &mut call.public {
                 public[17..].copy_from_slice(&number.to_le_bytes());
             }
@@ -351,7 +355,7 @@ fn honest(rng: &mut Rng, expander: u64, take: Take) {
     }
 }
 
-/// Areas that just fit, are a byte short, end around a level's end or have no bytes.
+/// Areas that just fit, are a byte short, end around each level's end or have few bytes or none.
 fn areas(rng: &mut Rng, expander: u64, take: Take) {
     for (n, t, count) in [
         (1, 1, 0),
@@ -390,13 +394,10 @@ fn areas(rng: &mut Rng, expander: u64, take: Take) {
                 (record - 1, list - 1),
             ]);
         }
-        let levels = search.ends.len();
-        for (level, end) in search.ends.iter().enumerate() {
-            if level > 2 && level + 3 < levels && level % 8 != 0 {
-                continue;
-            }
+        for end in &search.ends {
             rooms.extend([(end - 1, list), (*end, list), (end + 1, list)]);
         }
+        rooms.extend((1..=40).map(|room| (room, list)));
         for (record_room, list_room) in rooms {
             let (wanted, call) = search.with_areas(record_room, list_room);
             take("areas around the fit", wanted, call);
@@ -548,7 +549,7 @@ fn set_number(public: &mut [u8], number: u64) {
 }
 
 /// Changes that bring about a cause in a call of two reports with n = 3 and no room to spare.
-pub const CAUSES: [Cause; 58] = [
+pub const CAUSES: [Cause; 62] = [
     (1, |call| call.n = 0),
     (1, |call| call.n = 257),
     (1, |call| call.n += 1 << 32),
@@ -611,6 +612,10 @@ pub const CAUSES: [Cause; 58] = [
     (8, |call| call.public[1].rotate_left(73)),
     (11, |call| call.record_room -= 1),
     (11, |call| call.record_room = 0),
+    (11, |call| call.record_room = 7),
+    (11, |call| call.record_room = 8),
+    (11, |call| call.record_room = 31),
+    (11, |call| call.record_room = 32),
     (11, |call| call.list_room -= 1),
     (11, |call| {
         call.record_room -= 1;
@@ -693,7 +698,7 @@ fn largest_counts(rng: &mut Rng, take: Take) {
         many(65_535, kinds, t).take_with("65535 reports", 0, take);
     }
     many(65_534, 1, 65_535).take_with("65534 reports", 0, take);
-    let over = many(65_536, 5, 1).with_areas(24, 2).1;
+    let over = many(65_536, 5, 1).with_areas(32, 2).1;
     let cases: [Cause; 15] = [
         (5, |_| {}),
         (1, |call| call.n = 0),

@@ -4,7 +4,8 @@ use crate::searches::{compare, Call, LIST, RECORD};
 use compare::make::*;
 use compare::tally::{Plan, Tally};
 use second::brute;
-use second::query::{pack, write};
+use second::field::read;
+use second::query::pack;
 use second::rng::Rng;
 
 /// How a second collection comes from the first; seeds and expander are drawn again. Beside it its
@@ -56,7 +57,7 @@ pub fn run(rng: &mut Rng, tally: &mut Tally) {
         let records =
             [&one, &other].map(|strings| record(rng, tally, n, weighted, t, strings, name));
         let same = brute::cut(&one, t) == brute::cut(&other, t);
-        tally.pair(name, records[0] == records[1], same);
+        pair(tally, name, [&records[0], &records[1]], same);
     }
     for (n, most) in [(1, 5), (2, 4), (3, 3)] {
         for t in 1..5 {
@@ -83,8 +84,18 @@ fn every_small(rng: &mut Rng, tally: &mut Tally, n: usize, weighted: bool, t: u6
     }
     for (i, (cut, record)) in met.iter().enumerate() {
         for (other_cut, other) in &met[..i] {
-            tally.pair(pairs, record == other, cut == other_cut);
+            pair(tally, pairs, [record, other], cut == other_cut);
         }
+    }
+}
+
+/// Judges demand 3 of two records; as every weight is one, it holds after their heads too.
+fn pair(tally: &mut Tally, kind: &'static str, [one, other]: [&Vec<u8>; 2], same: bool) {
+    tally.pair(kind, one == other, same);
+    if (one.get(8..) == other.get(8..)) != same {
+        tally.fault(&format!(
+            "demand 3, {kind}: another answer without the heads"
+        ));
     }
 }
 
@@ -151,7 +162,7 @@ fn record(
     for string in strings {
         reports.add(rng, expander, 1, string.clone());
     }
-    let queried = queried(strings, n, t);
+    let queried = brute::record(strings, n, t);
     let heavy: Vec<u8> = brute::heavy(strings, t)
         .iter()
         .flat_map(|string| pack(string))
@@ -170,17 +181,17 @@ fn record(
     if record != queried {
         tally.fault(&format!("demand 2, {kind}: the record is not the counts"));
     }
+    if !head_is_sum(&record) {
+        tally.fault(&format!(
+            "{kind}: the head is not the sum of the first totals"
+        ));
+    }
     record
 }
 
-/// The record of the counted prefixes.
-fn queried(strings: &Strings, n: usize, t: u64) -> Vec<u8> {
-    let counted = brute::queried(strings, n, t);
-    let mut record = Vec::new();
-    for level in counted.chunk_by(|(one, _), (next, _)| one.len() == next.len()) {
-        let prefixes: Vec<Vec<u8>> = level.iter().map(|(prefix, _)| pack(prefix)).collect();
-        record.extend(write(level[0].0.len(), &prefixes));
-        record.extend(level.iter().flat_map(|(_, total)| total.to_le_bytes()));
-    }
-    record
+/// Whether the first two totals of a record add to the number at its head.
+fn head_is_sum(record: &[u8]) -> bool {
+    let head = record.iter().take(8);
+    let head = head.fold(0, |sum, &byte| sum << 8 | u64::from(byte));
+    record.len() >= 32 && read(&record[16..24]).checked_add(read(&record[24..32])) == Some(head)
 }

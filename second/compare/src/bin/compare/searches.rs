@@ -1,9 +1,10 @@
-//! Comparison of the whole search: random calls, the fixed ones of `search_cases` and
-//! `weighted_search_cases`, and those of `search_demands` and `weighted_demands`; number, lengths,
-//! both areas and the lent inputs.
+//! Comparison of the whole search: random calls, the fixed ones of `search_cases`,
+//! `weighted_search_cases` and `search_heads`, and those of `search_demands`, `weighted_demands` and
+//! `equal_totals`; number, lengths, both areas and the lent inputs.
 
 pub use crate::search_call::Call;
-use crate::{search_cases, search_demands, weighted_demands, weighted_search_cases};
+use crate::{equal_totals, search_cases, search_demands, search_heads};
+use crate::{weighted_demands, weighted_search_cases};
 use compare::calls;
 use compare::make::*;
 use compare::tally::{shown, Outcome, Plan, Space, Tally};
@@ -58,8 +59,10 @@ pub fn run(start: u64, count: usize, tally: &mut Tally) {
     };
     search_cases::each(&mut take);
     weighted_search_cases::each(&mut take);
+    search_heads::each(&mut take);
     search_demands::run(&mut rng, tally);
     weighted_demands::run(&mut rng, tally);
+    equal_totals::run(&mut rng, tally);
 }
 
 fn damaged(rng: &mut Rng, plan: &Plan) -> Call {
@@ -108,13 +111,15 @@ fn damaged(rng: &mut Rng, plan: &Plan) -> Call {
     let (mut record_size, mut list_size) =
         (found.record_length as usize, found.list_length as usize);
     if found.number != 0 {
-        record_size = rng.pick(&[0, 23, 24, 500, 5000]);
+        record_size = rng.pick(&[0, 7, 8, 9, 31, 32, 500, 5000]);
         list_size = rng.pick(&[0, 1, 40]);
     }
     call.record_room = room(rng, record_size);
     call.list_room = room(rng, list_size);
     if plan.has("record room") {
-        call.record_room = short_room(rng, record_size);
+        let first = rng.pick(&[7, 8, 9, 31]);
+        let short = short_room(rng, record_size);
+        call.record_room = rng.pick(&[short, short, short, first]);
     }
     if plan.has("list room") {
         call.list_room = short_room(rng, list_size);
@@ -183,7 +188,7 @@ fn hostile(rng: &mut Rng) -> Call {
         expander: good_expander(rng),
         seeds: [rng.bytes(16 * count), rng.bytes(16 * count)],
         public: [public.clone(), public],
-        record_room: rng.pick(&[23, 24, 100, 3000, 100_000]),
+        record_room: rng.pick(&[7, 8, 31, 32, 100, 3000, 3000, 100_000, 100_000]),
         list_room: rng.pick(&[0, 1, 100, 10_000]),
     };
     if rng.below(4) == 0 {
@@ -240,7 +245,16 @@ pub fn compare(rng: &mut Rng, plan: &Plan, call: &Call, tally: &mut Tally) -> Ou
     if !left(&theirs, record(), list()) {
         tally.fault("search: the areas are not left as its number says");
     }
+    if theirs.numbers[0] == 0 && !headed(&theirs, call.seeds[0].len() / 16) {
+        tally.fault("search: the record does not begin with the number of reports");
+    }
     theirs
+}
+
+/// Whether the record begins with this number of reports and has its first level whole.
+fn headed(theirs: &Outcome, reports: usize) -> bool {
+    let record = theirs.spaces[RECORD].first(theirs.numbers[1]);
+    record.len() >= 32 && record[..8] == (reports as u64).to_be_bytes()
 }
 
 /// Whether the areas, given as before the call, are left as the number and lengths say.

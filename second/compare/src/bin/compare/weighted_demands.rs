@@ -101,6 +101,7 @@ fn judged(rng: &mut Rng, tally: &mut Tally, n: usize, t: u64, reports: &[Weighed
     let spare = exact.map(|size| room(rng, size));
     let mut rooms = vec![(0, named), (0, exact), (0, spare)];
     rooms.push((11, [exact[0] - 1, spare[1]]));
+    rooms.push((11, [rng.pick(&[0, 1, 7, 8, 9, 31]), spare[1]]));
     if !list.is_empty() {
         rooms.push((11, [spare[0], exact[1] - 1]));
     }

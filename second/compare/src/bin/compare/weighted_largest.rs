@@ -43,7 +43,7 @@ fn largest_counts(rng: &mut Rng, take: Take) {
     ] {
         many(rng, 65_535, weights, t).take_with("65535 weighted reports", 0, take);
     }
-    let over = many(rng, 65_536, [1, 2], 1).with_areas(24, 2).1;
+    let over = many(rng, 65_536, [1, 2], 1).with_areas(32, 2).1;
     take("65536 weighted reports", Wanted::Refused(5), over.clone());
     for threshold in THRESHOLDS {
         let mut call = over.clone();

@@ -56,11 +56,11 @@ pub fn as_weighted(call: Call, reports: &[Report]) -> Search {
     Search::of(Call { weighted, ..call }, reports)
 }
 
-/// Hands over a search with areas that just fit, and a byte short each.
+/// Hands over a search with areas that just fit, a byte short each, and around the first level.
 fn take_areas(search: &Search, name: &'static str, take: Take) {
     let (record, list) = (search.record.len(), search.list.len());
     let mut rooms = vec![(record, list), (record + 9, list + 9), (record - 1, list)];
-    rooms.push((record - 1, list + 9));
+    rooms.extend([(record - 1, list + 9), (8, list), (31, list), (32, list)]);
     if list > 0 {
         rooms.extend([(record, list - 1), (record + 9, 0), (record - 1, list - 1)]);
     }

@@ -119,7 +119,8 @@ impl Fuzz<'_> {
         }
     }
 
-    /// The inputs are seeds and public shares of server 0, then those of server 1.
+    /// The inputs are seeds and public shares of server 0, then those of server 1; the record of a
+    /// success begins with the number of reports and has its first level whole.
     pub fn search(
         &mut self,
         (n, weighted, t, expander): (u64, bool, u64, u64),
@@ -131,14 +132,22 @@ impl Fuzz<'_> {
             may: &[0, 1, threshold(weighted), 3, 4, 5, 6, 7, 8, 11],
             fields: &[n, weighted as u64, t, expander],
         };
+        let mut right = true;
         let make = |lent: [&[u8]; 4], [record, list]: [&mut [u8]; 2]| {
             let [seeds0, public0, seeds1, public1] = lent;
+            let head = (seeds0.len() as u64 / 16).to_be_bytes();
             let found = calls::search(
                 n, weighted, t, expander, seeds0, public0, seeds1, public1, record, list,
             );
+            let whole = found.record_length >= 32 && record.starts_with(&head);
+            right = found.number != 0 || whole;
             (found.number, [found.record_length, found.list_length])
         };
         self.judged.call(&mut self.rng, &call, inputs, rooms, make);
+        if !right {
+            self.judged
+                .fault("search: a record that does not begin with the number of reports");
+        }
     }
 
     #[cfg(feature = "exam")]

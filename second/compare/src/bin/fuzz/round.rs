@@ -7,7 +7,7 @@ use compare::make::{any_number, pass_six_and_seven, set_number};
 use compare::queries;
 #[cfg(feature = "exam")]
 use compare::sheets::{change_byte, wild_text, Sheet};
-use compare::weights::{good_t, weight};
+use compare::weights::{good_t, weight, MOST};
 use second::keys::public_share_size;
 use second::query::{pack, packed_size, Query};
 use second::rng::Rng;
@@ -38,6 +38,9 @@ pub fn run(seed: u64, judged: &mut Judged) {
     #[cfg(feature = "kept")]
     fuzz.keeps(&reports);
     fuzz.wild();
+    if fuzz.rng.below(50) == 0 {
+        fuzz.hundreds(&reports);
+    }
     if fuzz.rng.below(1000) == 0 {
         fuzz.many();
     }
@@ -168,7 +171,9 @@ impl Fuzz<'_> {
         let weighted = self.rng.coin();
         let t = good_t(&mut self.rng, weighted);
         let most = 64 + 9 * NODES / (n * count.max(1));
-        let room = length(&mut self.rng, 40 * n * count).min(most);
+        let (short, right) = (self.rng.below(40), 8 + 40 * n * count);
+        let right = self.rng.pick(&[right, right, right, short]);
+        let room = length(&mut self.rng, right).min(most);
         let list_room = length(&mut self.rng, count * packed_size(n));
         let [seeds0, seeds1] = &reports.seeds;
         let honest = [&seeds0[..], &reports.public, seeds1, &reports.public];
@@ -209,6 +214,30 @@ impl Fuzz<'_> {
         self.wild_kept((n, expander, server), [a, b, c]);
     }
 
+    /// A search of each report many times over, so that there are around 256 of them or more.
+    fn hundreds(&mut self, reports: &Reports) {
+        let times = 256 / reports.strings.len().max(1) + self.rng.below(3);
+        let (n, count) = (reports.n, times * reports.strings.len());
+        let [seeds0, seeds1] = reports.seeds.each_ref().map(|seeds| seeds.repeat(times));
+        let public = reports.public.repeat(times);
+        let weighted = self.rng.coin();
+        let t = good_t(&mut self.rng, weighted);
+        let room = 32 + 9 * NODES / (n * count.max(1));
+        let inputs = [&seeds0[..], &public, &seeds1, &public];
+        let fields = (n as u64, weighted, t, reports.expander);
+        self.search(fields, inputs, [room, 4 * packed_size(n)]);
+        self.search(
+            (
+                n as u64,
+                weighted,
+                MOST[weighted as usize],
+                reports.expander,
+            ),
+            inputs,
+            [32, 0],
+        );
+    }
+
     /// As many reports as there may be, or one more, all of them zero bytes.
     fn many(&mut self) {
         let count = self.rng.pick(&[65_535, 65_536]);
@@ -218,7 +247,8 @@ impl Fuzz<'_> {
         self.share((1, 2, server), [&seeds, &public, &query], 16);
         let weighted = self.rng.coin();
         let inputs = [&seeds[..], &public, &seeds, &public];
-        self.search((1, weighted, 1, 2), inputs, [24, 2]);
+        let room = self.rng.pick(&[31, 32]);
+        self.search((1, weighted, 1, 2), inputs, [room, 2]);
         self.add([&seeds, &seeds], seeds.len());
         #[cfg(feature = "kept")]
         self.many_kept(&seeds, &public);
