@@ -231,10 +231,11 @@ static inline uint8_t *tally_empty(void)
 // to 32, and 32 heavy strings in lines of 39 bytes.
 #define TALLY_EXAM_SPACE 43232
 
-// ---- reading what was written: plain C in this header, and no part of the proved library
+// ---- the numbers of a record: plain C in this header, and no part of the proved library
 
-// The number of reports of a record: its first 8 bytes, big-endian. Nothing is checked: where the number is above TALLY_REPORTS_MOST, the bytes
-// are no record.
+// The number of reports of a record: its first 8 bytes, big-endian. It is for what tally_search wrote and returned 0 for: after 11 the area reads
+// as that of no reports, after any other refusal as what it held before. Nothing is checked: where the number is above TALLY_REPORTS_MOST, the
+// bytes are no record.
 static inline uint64_t tally_report_count(const uint8_t *record)
 {
     uint64_t number = 0;
@@ -243,7 +244,17 @@ static inline uint64_t tally_report_count(const uint8_t *record)
     return number;
 }
 
-// A total of a record, or another group number, such as one of a share: 8 bytes, little-endian.
+// Writes the number of reports, TALLY_HEADING_LENGTH bytes, for a collector that keeps a record of the loop with tally_share and tally_combine.
+static inline void tally_write_report_count(uint64_t reports, uint8_t *record)
+{
+    for (size_t i = TALLY_HEADING_LENGTH; 0 < i; i--) {
+        record[i - 1] = (uint8_t)(reports & 0xff);
+        reports >>= 8;
+    }
+}
+
+// A total of a record, or another group number, such as one of a share: 8 bytes, little-endian. In a weighted search tally_signed_total reads it
+// further.
 static inline uint64_t tally_total(const uint8_t *bytes)
 {
     uint64_t number = 0;
@@ -415,7 +426,7 @@ tally_found tally_search(uint64_t n, bool weighted, uint64_t t, uint64_t expande
                          uint8_t *list, size_t list_length);
 
 // Answers an exam text: makes the keys of its strings with weight 1, does the whole search over them, which is not weighted, and writes the
-// record and the list as lines.
+// queries and totals of the record, and the list, as lines; the number of reports is not among them.
 // Reads: the text, which need not end in a zero byte.
 // Writes: the answer into out, without a zero byte at its end. TALLY_EXAM_SPACE bytes are always enough; every answer has at least 8.
 // Refuses with 10, judged first; 1, n is 0; 2; 3; 11, out is too small for the whole answer.

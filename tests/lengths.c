@@ -1,7 +1,7 @@
 // For every string length: the lengths that tally.h gives as macros are those that the calls write and ask for, and for two strings that part at
 // their first bit, with t = 1, the space that the library names is what the search writes, byte for byte, weighted or not; the record begins with
-// the number of reports. tally_report_count and tally_total read the number of reports and the totals that a search writes. The largest and the
-// least space are those that tally.h names.
+// the number of reports. tally_report_count and tally_total read the number of reports and the totals that a search writes, and
+// tally_write_report_count writes that number as it does. The largest and the least space are those that tally.h names.
 #include <stdio.h>
 #include <stdlib.h>
 #include <string.h>
@@ -92,6 +92,10 @@ static void read_back(size_t reports)
     same("a search of reports of one string", 1, TALLY_OK, found.number);
     same("its record", 1, TALLY_HEADING_LENGTH + TALLY_QUERY_LENGTH(1, 2) + TALLY_SHARE_LENGTH(2), found.record_length);
     same("tally_report_count", 1, reports, tally_report_count(record));
+    uint8_t heading[TALLY_HEADING_LENGTH + 1] = {[TALLY_HEADING_LENGTH] = 7};
+    tally_write_report_count(reports, heading);
+    same("tally_write_report_count", 1, 0, memcmp(heading, record, TALLY_HEADING_LENGTH));
+    same("no byte behind it", 1, 7, heading[TALLY_HEADING_LENGTH]);
     same("tally_total of 0", 1, 0, tally_total(totals));
     same("tally_total of 1", 1, reports, tally_total(totals + TALLY_NUMBER_LENGTH));
 }

@@ -126,14 +126,6 @@ static void print_bits(const uint8_t *packed, size_t bits)
         putchar(packed[i / 8] >> (7 - i % 8) & 1 ? '1' : '0');
 }
 
-// Begins a record with the number of reports, most significant byte first.
-static void begin_record(collected *into, uint64_t reports)
-{
-    for (int i = 0; i < TALLY_HEADING_LENGTH; i++)
-        into->record[i] = (uint8_t)(reports >> (8 * (TALLY_HEADING_LENGTH - 1 - i)));
-    into->record_length = TALLY_HEADING_LENGTH;
-}
-
 // Puts a query and its totals at the end of the record, and prints one line for each prefix.
 static void note_level(collected *into, const uint8_t *query, size_t query_length, const uint8_t *totals)
 {
@@ -154,7 +146,8 @@ static void collect(server *zero, server *one, collected *into)
 {
     uint8_t query[TALLY_QUERY_LENGTH(N, MOST_PREFIXES)] = TALLY_FIRST_QUERY;
     size_t query_length = TALLY_QUERY_LENGTH(1, 2);
-    begin_record(into, REPORTS);
+    tally_write_report_count(REPORTS, into->record);
+    into->record_length = TALLY_HEADING_LENGTH;
     for (;;) {
         uint8_t share0[TALLY_SHARE_LENGTH(MOST_PREFIXES)], share1[sizeof share0], totals[sizeof share0], out[sizeof query];
         tally_reply reply0 = answer(zero, query, query_length, share0, sizeof share0);

@@ -92,14 +92,6 @@ static void write_number(uint64_t number, uint8_t *to)
         to[i] = (uint8_t)(number >> (8 * i));
 }
 
-// Begins a record with the number of reports, most significant byte first.
-static void begin_record(collected *into, uint64_t reports)
-{
-    for (int i = 0; i < TALLY_HEADING_LENGTH; i++)
-        into->record[i] = (uint8_t)(reports >> (8 * (TALLY_HEADING_LENGTH - 1 - i)));
-    into->record_length = TALLY_HEADING_LENGTH;
-}
-
 // The sum of two group numbers, modulo p.
 static uint64_t add(uint64_t a, uint64_t b)
 {
@@ -139,7 +131,8 @@ static void collect(const server *zero, const server *one, collected *into)
 {
     uint8_t query[TALLY_QUERY_LENGTH(N, MOST_PREFIXES)] = TALLY_FIRST_QUERY;
     size_t query_length = TALLY_QUERY_LENGTH(1, 2);
-    begin_record(into, REPORTS);
+    tally_write_report_count(REPORTS, into->record);
+    into->record_length = TALLY_HEADING_LENGTH;
     into->list_length = 0;
     for (;;) {
         uint8_t share0[TALLY_SHARE_LENGTH(MOST_PREFIXES)];

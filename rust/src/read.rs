@@ -144,6 +144,8 @@ impl<'a> Level<'a> {
 
 /// The levels of a record, which stand behind the number of reports, in order; they end where the bytes are no level.
 ///
+/// Lend the bytes up to the record length: in a longer area the levels go on as long as what an earlier search left reads as one.
+///
 /// The number of reports is passed over without a look at it. A record stored before version 0.5.0 has none, so that its first query is passed over
 /// instead; where its first total is at most 65,535 there are then no levels, and no error says so. [`Record`](crate::Record) takes no such record.
 ///

@@ -22,14 +22,14 @@ use Rattle.honest.proofs.Making.{made-honest}
 use Rattle.weights.proofs.Ones.{ones, ones-length, ones-every, ones-weights, ones-at}
 use Rattle.exam_text.specs.Sheet.{Line, Sheet, strings, expanderNumber, Within}
 use Rattle.exam_text.specs.Reader.{noLine}
+use Rattle.exam_text.proofs.Records.{Rounds}
 use Rattle.exam_reports.specs.SheetReports.{eachLine, publicShareFor, seeds0Of, seeds1Of, publicSharesOf}
 use Rattle.exam_reports.proofs.EachLine.{each-joined}
 use Rattle.exam_reports.proofs.PiecesPut.{joined-same}
 use Rattle.exam_reports.proofs.SheetSizes.{line-sound, seeds0-size, seeds1-size}
 use Rattle.exam_answering.specs.AnswerText.{answerText}
-use Rattle.exam_answering.specs.SheetSearch.{sheetSearch, searchedText, searchText}
-use Rattle.exam_text.proofs.Records.{Rounds}
 use Rattle.exam_answering.specs.Printing.{roundLength}
+use Rattle.exam_answering.specs.SheetSearch.{sheetSearch, searchedText, searchText}
 use Rattle.exam_answering.proofs.HonestAnswer.{exam-accepted, answer-printed, answer-read}
 
 -- 32 public shares of strings of at most 32 bits take 24,832 bytes

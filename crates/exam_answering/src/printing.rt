@@ -1,4 +1,4 @@
-// A search's record and list as text. Each function that writes at a place gives back the place behind what it wrote.
+// The queries and totals of a search's record, and its list, as text. Each function that writes at a place gives back the place behind what it wrote.
 use bits::packed_length;
 use exam_lines::write_heavy_line;
 use exam_lines::write_prefix_line;

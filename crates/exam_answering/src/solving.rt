@@ -22,7 +22,7 @@ ghost use Rattle.exam_text.proofs.Records.{Rounds};
 ghost use Rattle.exam_answering.specs.Printing.{printed, roundLength};
 ghost use Rattle.exam_answering.specs.SheetSearch.{searchedText, searchText};
 
-// Prints the record and the list of a search that is accepted; both servers are lent the same public shares.
+// Prints the queries and totals of the record, and the list, of a search that is accepted; both servers are lent the same public shares.
 fn search_printed(
     n: u16,
     t: u64,

@@ -175,7 +175,7 @@ module _ (s : Lent) (sound : Sound s) where
   }
 
 -- Where no cause before 11 applies to a search, its queries are within the limit, and server b is lent nodes for every report and every prefix of each
--- query: with kept nodes the calls leave the same record and list.
+-- query: with kept nodes the calls leave the same queries, totals and list.
 pub kept-played : (s : Lent) → Passes s → queriesFit s ≡ true → (nodes : Bool → List Node)
     → ((b : Bool) (k : ℕ) → k < s .n → reports s * length (children (keptAt s k)) ≤ length (nodes b))
     → keptPlayed s (s .n) (begun s nodes) firstQuery ≡ played s (s .n) firstQuery

@@ -9,15 +9,15 @@ use lib.Seq.{length-take-le}
 use Rattle.places.specs.Places.{overlay}
 use Rattle.expander.specs.Expander.{isExpander}
 use Rattle.point.specs.PublicShare.{publicShareLength}
+use Rattle.tree.specs.SearchRule.{headingLength}
 use Rattle.search.specs.Search.{Lent, lent}
 use Rattle.honest.specs.Honest.{Accepted, recordRead, listRead}
 use Rattle.exam_text.specs.Sheet.{Sheet, expanderNumber, Within}
 use Rattle.exam_text.specs.Reader.{sheetOf}
+use Rattle.exam_text.proofs.Records.{Rounds}
 use Rattle.exam_text.proofs.ReaderExact.{sheet-within}
 use Rattle.exam_reports.specs.SheetReports.{seeds0Of, seeds1Of, publicSharesOf}
 use Rattle.exam_reports.proofs.SheetMaking.{reports-stand, reports-read}
-use Rattle.exam_text.proofs.Records.{Rounds}
-use Rattle.tree.specs.SearchRule.{headingLength}
 use Rattle.exam_answering.specs.Printing.{printed, roundLength}
 use Rattle.exam_answering.specs.SheetSearch.{sheetSearch, searchedText}
 use Rattle.exam_answering.proofs.Longest.{answer-most}
