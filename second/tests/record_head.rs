@@ -1,11 +1,14 @@
 //! The head of the record: the number of reports, 8 bytes, big-endian.
 
+mod weighing;
+
 use second::brute::{self, Weighed};
 use second::field::P;
 use second::keys::public_share_size;
 use second::query::pack;
 use second::rng::Rng;
 use second::{key, list_space, record_space, search, Found};
+use weighing::{weighed, written};
 
 /// What the search is lent but for its two areas.
 #[derive(Clone)]
@@ -61,23 +64,8 @@ impl Lent {
 
     /// The record and the list of a search that passes.
     fn searched(&self) -> (Vec<u8>, Vec<u8>) {
-        let (found, mut record, mut list) = self.search([1 << 14, 1 << 8]);
-        assert_eq!(found.number, 0);
-        record.truncate(found.record_length as usize);
-        list.truncate(found.list_length as usize);
-        (record, list)
+        written(self.search([1 << 14, 1 << 8]))
     }
-}
-
-fn bits(text: &str) -> Vec<bool> {
-    text.chars().map(|c| c == '1').collect()
-}
-
-fn weighed(reports: &[(&str, i16)]) -> Vec<Weighed> {
-    reports
-        .iter()
-        .map(|&(s, weight)| (bits(s), weight))
-        .collect()
 }
 
 fn refused(number: u64) -> Found {

@@ -1,11 +1,14 @@
 //! Weighted searches of honest reports: known ones, and random ones against brute force.
 
+mod weighing;
+
 use second::brute::{self, Weighed};
 use second::field::P;
 use second::keys::public_share_size;
 use second::query::{pack, write};
 use second::rng::Rng;
 use second::{key, list_space, record_space, search, Found};
+use weighing::{bits, weighed, written};
 
 const MOST: u64 = 2_147_483_647;
 
@@ -63,23 +66,8 @@ impl Honest {
 
     /// The record and the list of a search that passes.
     fn searched(&self, weighted: bool, t: u64) -> (Vec<u8>, Vec<u8>) {
-        let (found, mut record, mut list) = self.search(weighted, t, [1 << 16, 1 << 12]);
-        assert_eq!(found.number, 0);
-        record.truncate(found.record_length as usize);
-        list.truncate(found.list_length as usize);
-        (record, list)
+        written(self.search(weighted, t, [1 << 16, 1 << 12]))
     }
-}
-
-fn bits(text: &str) -> Vec<bool> {
-    text.chars().map(|c| c == '1').collect()
-}
-
-fn weighed(reports: &[(&str, i16)]) -> Vec<Weighed> {
-    reports
-        .iter()
-        .map(|&(s, weight)| (bits(s), weight))
-        .collect()
 }
 
 /// The record of this many reports with these levels.
