@@ -9,7 +9,7 @@ mod word;
 use state::State;
 
 // Two blocks encrypted under one key.
-#[derive(Drop)]
+#[derive(Clone, Copy)]
 pub struct Pair {
     pub first: [u8; 16],
     pub second: [u8; 16],

@@ -6,7 +6,7 @@ ghost use Rattle.aes.specs.StateLayout.{bytes_of};
 use crate::word::Word;
 
 // A state as its four columns, or a round key as its four words.
-#[derive(Drop)]
+#[derive(Clone, Copy)]
 pub(crate) struct State {
     pub(crate) w0: Word,
     pub(crate) w1: Word,

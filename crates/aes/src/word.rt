@@ -30,7 +30,7 @@ fn doubles(bytes: [u8; 4]) -> [u8; 4]
 }
 
 // Four bytes as one number, that of row 0 lowest.
-#[derive(Drop)]
+#[derive(Clone, Copy)]
 pub(crate) struct Word {
     pub(crate) bits: u32,
 }

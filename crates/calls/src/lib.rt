@@ -4,7 +4,7 @@ ghost use Rattle.calls.specs.Bounds.{most_bits, threshold_most, threshold_number
 
 // The number of the cause that refused it, or 0; and how many bytes were written.
 #[repr(C)]
-#[derive(Drop)]
+#[derive(Clone, Copy)]
 pub struct Reply {
     pub number: u64,
     pub length: u64,

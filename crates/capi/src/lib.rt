@@ -135,7 +135,7 @@ pub extern "C" fn tally_add(share0: &[u8], share1: &[u8], out: &mut [u8]) -> Rep
 // What combining returns: the number of the cause that refused it, or 0; the kind of its answer, 0 for a refusal, 1 for the next query, 2 for the
 // list, 3 where the search ended; and how many bytes were written.
 #[repr(C)]
-#[derive(Drop)]
+#[derive(Clone, Copy)]
 pub struct CombineReply {
     pub number: u64,
     pub kind: u64,

@@ -13,7 +13,7 @@ mod totals;
 mod writing;
 
 // What combining answers: the next query or the list, with its length in bytes; the end of the search; or the number of the cause that refused it.
-#[derive(Drop)]
+#[derive(Clone, Copy)]
 pub enum Combined {
     Next(u64),
     List(u64),

@@ -6,7 +6,7 @@ ghost use Rattle.exam_text.proofs.Reading.{FieldRead};
 use places::byte_at;
 
 // Whether a field is laid out so, its number, and the place behind it; all 0 where it is not.
-#[derive(Drop)]
+#[derive(Clone, Copy)]
 pub(crate) struct Field {
     pub(crate) laid_out: bool,
     pub(crate) value: usize,

@@ -5,7 +5,7 @@ ghost use Rattle.exam_text.proofs.Reading.{EndRead, FirstLineRead};
 use crate::fields::read_field;
 
 // The end of a first line: the count, the expander, and where the next line begins.
-#[derive(Drop)]
+#[derive(Clone, Copy)]
 struct End {
     laid_out: bool,
     count: usize,
@@ -14,7 +14,7 @@ struct End {
 }
 
 // A first line: its four numbers, and where the next line begins.
-#[derive(Drop)]
+#[derive(Clone, Copy)]
 pub(crate) struct FirstLine {
     pub(crate) laid_out: bool,
     pub(crate) n: usize,

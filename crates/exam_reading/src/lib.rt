@@ -15,7 +15,7 @@ mod lines;
 mod parts;
 
 // What a text says on its first line, and where its other lines begin; all 0 where it is not the text of a sheet.
-#[derive(Drop)]
+#[derive(Clone, Copy)]
 pub struct SheetRead {
     pub is_sheet: bool,
     pub n: u16,
@@ -26,7 +26,7 @@ pub struct SheetRead {
 }
 
 // A line: its string, packed into four bytes, and its two root seeds.
-#[derive(Drop)]
+#[derive(Clone, Copy)]
 pub struct LineRead {
     pub string: [u8; 4],
     pub seed0: [u8; 16],
@@ -34,7 +34,7 @@ pub struct LineRead {
 }
 
 // What the text of a key line says: whether it is one, its two numbers, and the place of its string and seeds; all 0 where it is not.
-#[derive(Drop)]
+#[derive(Clone, Copy)]
 pub struct KeyLineRead {
     pub is_key_line: bool,
     pub n: u16,

@@ -7,21 +7,21 @@ use numbers::{read_le8, write_be8, write_le8};
 use std::num::wrapping_add_u64;
 
 // Expander 1 is AES-128; expander 2, for the classroom, hides nothing.
-#[derive(Drop)]
+#[derive(Clone, Copy)]
 pub enum Expander {
     Aes,
     Classroom,
 }
 
 // What a number names.
-#[derive(Drop)]
+#[derive(Clone, Copy)]
 pub enum Choice {
     Known(Expander),
     Unknown,
 }
 
 // Two blocks of one seed.
-#[derive(Drop)]
+#[derive(Clone, Copy)]
 pub struct Blocks {
     pub first: [u8; 16],
     pub second: [u8; 16],

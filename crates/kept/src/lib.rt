@@ -6,7 +6,7 @@ ghost use Rattle.kept.specs.Kept.{reaches_by};
 use signed::signed;
 
 // The threshold t of a search, and whether its totals are read as signed numbers.
-#[derive(Drop)]
+#[derive(Clone, Copy)]
 pub struct Rule {
     pub t: u64,
     pub weighted: bool,

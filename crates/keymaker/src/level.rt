@@ -11,28 +11,28 @@ use expander::Expander;
 use nodes::{Correction, Node, corrected, draw, split};
 
 // Both servers' nodes on the string's path.
-#[derive(Drop)]
+#[derive(Clone, Copy)]
 pub(crate) struct Nodes {
     pub(crate) node0: Node,
     pub(crate) node1: Node,
 }
 
 // The correction word of a level, and the nodes below it.
-#[derive(Drop)]
+#[derive(Clone, Copy)]
 pub(crate) struct Level {
     pub(crate) word: Correction,
     pub(crate) next: Nodes,
 }
 
 // A left and a right child.
-#[derive(Drop)]
+#[derive(Clone, Copy)]
 struct Children {
     left: Node,
     right: Node,
 }
 
 // A level before the payloads are drawn: seed and bit corrections, and the kept children, corrected.
-#[derive(Drop)]
+#[derive(Clone, Copy)]
 struct Kept {
     seed: [u8; 16],
     left: bool,
@@ -42,7 +42,7 @@ struct Kept {
 }
 
 // What a corrected seed gives.
-#[derive(Drop)]
+#[derive(Clone, Copy)]
 struct Drawn {
     node: Node,
     payload: u64,

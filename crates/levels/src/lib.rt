@@ -13,7 +13,7 @@ use expander::Expander;
 use kept::Rule;
 
 // 0, or 11 where there is no room; and how many bytes were written of the record and of the list.
-#[derive(Drop)]
+#[derive(Clone, Copy)]
 pub struct LevelsReply {
     pub number: u64,
     pub record_length: u64,

@@ -116,7 +116,7 @@ pub fn kept_cause(
 }
 
 // Where the writing of a list at the roots stands: the number that refuses it, or 0; how many roots are left; and the place of the next one.
-#[derive(Drop)]
+#[derive(Clone, Copy)]
 pub struct Filling {
     pub number: u64,
     pub left: usize,
@@ -124,7 +124,7 @@ pub struct Filling {
 }
 
 // A node to write, and where the writing stands then.
-#[derive(Drop)]
+#[derive(Clone, Copy)]
 pub struct Filled {
     pub node: Node,
     pub rest: Filling,

@@ -12,14 +12,14 @@ use expander::Expander;
 
 // A seed and a control bit.
 #[repr(C)]
-#[derive(Drop)]
+#[derive(Clone, Copy)]
 pub struct Node {
     pub seed: [u8; 16],
     pub bit: bool,
 }
 
 // The correction word of a level.
-#[derive(Drop)]
+#[derive(Clone, Copy)]
 pub struct Correction {
     pub seed: [u8; 16],
     pub left: bool,

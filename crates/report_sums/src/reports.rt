@@ -11,7 +11,7 @@ use nodes::public_share_length;
 use walk::Shares;
 
 // A server's sums at two prefixes.
-#[derive(Drop)]
+#[derive(Clone, Copy)]
 pub struct Sums {
     pub first: u64,
     pub second: u64,

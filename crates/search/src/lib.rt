@@ -10,7 +10,7 @@ use kept::Rule;
 
 // The number of the cause that refused it, or 0; and how many bytes were written of the record and of the list.
 #[repr(C)]
-#[derive(Drop)]
+#[derive(Clone, Copy)]
 pub struct Found {
     pub number: u64,
     pub record_length: u64,

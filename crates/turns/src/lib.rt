@@ -9,7 +9,7 @@ use nodes::Node;
 
 // What a call is to do: the number that refuses it, or 0; the expander; how many levels a public share has; the server; the level that is gone down; how
 // many reports there are, prefixes in the last query, and prefixes in the new one.
-#[derive(Drop)]
+#[derive(Clone, Copy)]
 pub struct Task {
     pub number: u64,
     pub expander: Expander,
@@ -23,7 +23,7 @@ pub struct Task {
 
 // A turn: how many turns are left with it; its report, its prefix, and the place of the parent; whether it is due; the node that it reads, and the one
 // that it writes.
-#[derive(Drop)]
+#[derive(Clone, Copy)]
 pub struct Place {
     pub left: usize,
     pub report: usize,
@@ -35,7 +35,7 @@ pub struct Place {
 }
 
 // What a turn gives: the node to write, and the next place.
-#[derive(Drop)]
+#[derive(Clone, Copy)]
 pub struct Turned {
     pub node: Node,
     pub next: Place,

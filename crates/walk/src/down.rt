@@ -12,7 +12,7 @@ use expander::Expander;
 use nodes::{Node, draw};
 
 // A node, and a server's share at it.
-#[derive(Drop)]
+#[derive(Clone, Copy)]
 pub struct OneDown {
     pub node: Node,
     pub share: u64,

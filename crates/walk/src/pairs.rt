@@ -13,7 +13,7 @@ use expander::Expander;
 use nodes::Node;
 
 // A server's shares at two prefixes.
-#[derive(Drop)]
+#[derive(Clone, Copy)]
 pub struct Shares {
     pub first: u64,
     pub second: u64,

@@ -14,7 +14,7 @@ pub(crate) struct ShareReader<'a> {
 }
 
 // A level that was read: its correction word, and the level after it.
-#[derive(Drop)]
+#[derive(Clone, Copy)]
 pub(crate) struct LevelRead {
     pub(crate) word: Correction,
     pub(crate) after: u16,

@@ -1,0 +1,14 @@
+-- `aes::state::State::round` meets its contract. It is its four steps, of which the first two commute.
+use mathlib.Core.Path.{◌∙◌, ap}
+use mathlib.Core.List.{List}
+use Prim.Native.Nat.{ℕ}
+use Rattle.aes.specs.Fips197.{sub_bytes, mix_columns, add_round_key}
+use Rattle.aes.specs.StateLayout.{bytes_of}
+use Rattle.aes.proofs.state.State.round.Goals as goal
+
+pub returns : goal.returns
+returns c =
+    let key = bytes_of c.args.key in
+    c.add_round_key.ensures
+    ∙ ap (λ (s : List ℕ). add_round_key s key)
+    (c.mix_columns-self.ensures ∙ ap mix_columns (c.sub_bytes-self.ensures ∙ ap sub_bytes c.shift_rows-self.ensures))

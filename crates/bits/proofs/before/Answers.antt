@@ -1,0 +1,41 @@
+-- `bits::before` meets its contract. The loop's invariant: what is left decides. The measure is its length.
+use Prim.Native.Nat.{◌-◌}
+use native.Mathlib.Numerals.{add-one}
+use native.Mathlib.Omega.{arith}
+use mathlib.Core.Path.{refl, sym, ◌∙◌}
+use mathlib.Core.Logic.{inl, inr}
+use Rattle.bits.proofs.Order.{before-end, before-less, before_more, before_same}
+use Rattle.bits.proofs.before.Goals as goal
+
+pub loop-i-init : goal.loop-i-init
+loop-i-init c = refl
+
+pub returns-then-b-i : goal.returns-then-b-i
+returns-then-b-i c =
+    let a = c.args in
+    let l = c.loop-i in
+    sym (l.invariant ∙ before-end a.a.now a.b.now l.i (inr (omega arith)))
+
+pub returns-then-x-y : goal.returns-then-x-y
+returns-then-x-y c =
+    let a = c.args in
+    let l = c.loop-i in
+    sym (l.invariant ∙ before-less a.a.now a.b.now l.i (omega arith) (omega arith) c.if-x-y.true)
+
+pub returns-then-y-x : goal.returns-then-y-x
+returns-then-y-x c =
+    let a = c.args in
+    let l = c.loop-i in
+    sym (l.invariant ∙ before_more a.a.now a.b.now l.i (omega arith) (omega arith) c.if-y-x.true)
+
+pub loop-i-preserved : goal.loop-i-preserved
+loop-i-preserved c =
+    let a = c.args in
+    let l = c.loop-i in
+    rw (add-one l.i) (l.invariant ∙ before_same a.a.now a.b.now l.i (omega arith) (omega arith) c.if-x-y.false c.if-y-x.false)
+
+pub returns : goal.returns
+returns c =
+    let a = c.args in
+    let l = c.loop-i in
+    sym (l.invariant ∙ before-end a.a.now a.b.now l.i (inl (omega arith)))

@@ -1,0 +1,47 @@
+-- `places::copy` meets its contract. Outside nothing is written. The loop's invariant: the first i bytes are pasted. The measure is what is left of them.
+use Prim.Native.Nat.{◌+◌, ◌-◌, ◌≤◌}
+use native.Mathlib.Numerals.{add-one}
+use native.Mathlib.Omega.{arith}
+use mathlib.Core.Path.{◌≡◌, refl, sym, ◌∙◌}
+use lib.ListN.{length, length-set}
+use lib.Seq.{paste-zero, paste-suc, take-length}
+use Rattle.places.proofs.Places.{put_at-inside, put_at-outside}
+use Rattle.places.proofs.Inside.{inside, outside}
+use Rattle.places.proofs.copy.Goals as goal
+use Rattle.places.proofs.copy.Goals.{Else-not-within}
+
+-- the places lie within
+room : (c : Else-not-within) → c.args.at + length c.args.src.now ≤ length c.args.out.now
+room c = inside _ _ _ _ c.within.ensures c.if-not-within.false-raw
+
+pub returns-then-not-within : goal.returns-then-not-within
+returns-then-not-within c =
+    let a = c.args in
+    sym (put_at-outside a.out.now a.at a.src.now (outside _ _ _ _ c.within.ensures c.if-not-within.true-raw))
+
+pub loop-i-init : goal.loop-i-init
+loop-i-init c =
+    let a = c.args in
+    (omega arith, refl, paste-zero a.out.now a.at a.src.now)
+
+pub overflow_add-out : goal.overflow_add-out
+overflow_add-out c = omega (arith, room (goal.at.overflow_add-out c).Else-not-within)
+
+pub bounds-out-at : goal.bounds-out-at
+bounds-out-at c = omega (arith, room (goal.at.bounds-out-at c).Else-not-within)
+
+pub loop-i-preserved : goal.loop-i-preserved
+loop-i-preserved c =
+    let a = c.args in
+    let l = c.loop-i in (
+      omega arith,
+      simp length-set l.invariant.1,
+      rw (l.invariant.2, add-one l.i) (paste-suc a.out.now a.at a.src.now l.i 0 (omega (arith, room (goal.at.loop-i-preserved c).Else-not-within)) (omega arith)),
+    )
+
+pub returns : goal.returns
+returns c =
+    let a = c.args in
+    let e : c.loop-i.i ≡ length a.src.now = omega arith in
+    c.loop-i.invariant.2
+    ∙ rw (e, take-length a.src.now) (sym (put_at-inside a.out.now a.at a.src.now (omega (arith, room (goal.at.returns c).Else-not-within))))
