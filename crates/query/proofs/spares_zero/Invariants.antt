@@ -1,0 +1,12 @@
+use Prim.Native.Nat.{◌+◌, ◌*◌, ◌≤◌}
+use mathlib.Core.Path.{◌≡◌}
+use lib.ListN.{length, drop}
+use Rattle.query.specs.Query.{parts, spares_zero}
+use Rattle.query.proofs.spares_zero.Given as goal
+
+abbrev pub invariant-loop-left : goal.invariant-loop-left
+invariant-loop-left l =
+    (l.at + l.left * l.w ≤ length l.q) × (spares_zero l.len (parts l.w l.count (drop 6 l.q)) ≡ spares_zero l.len (parts l.w l.left (drop l.at l.q)))
+
+abbrev pub decreases-loop-left : goal.decreases-loop-left
+decreases-loop-left l = l.left
