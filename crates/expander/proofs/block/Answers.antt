@@ -6,7 +6,7 @@ use Rattle.expander.proofs.block.Goals as goal
 
 pub returns-in-Aes : goal.returns-in-Aes
 unfolding aes_block
-returns-in-Aes c = rw c.enum_told-1.given.1 (c.encrypt.ensures ∙ ap (cipher c.args.seed) c.counter.ensures)
+returns-in-Aes c = rw c.in-Aes.is (c.encrypt.ensures ∙ ap (cipher c.args.seed) c.counter.ensures)
 
 pub returns-in-Classroom : goal.returns-in-Classroom
-returns-in-Classroom c = rw c.enum_told-in-Classroom-1.given.1 c.classroom.ensures
+returns-in-Classroom c = rw c.in-Classroom.is c.classroom.ensures

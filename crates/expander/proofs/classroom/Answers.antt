@@ -7,4 +7,4 @@ pub returns : goal.returns
 returns c =
     c.join.ensures
     ∙ classroom-words c.args.seed c.args.j c.well_formed.0.1.0.1 c.read_le8-a.ensures c.read_le8-b.ensures
-    c.wrapping_add_u64.ensures c.wrapping_add_u64-first.ensures c.wrapping_add_u64-second.ensures
+    c.wrapping_add_u64.ensures.value c.wrapping_add_u64-first.ensures.value c.wrapping_add_u64-second.ensures.value

@@ -8,10 +8,10 @@ pub returns-in-Aes : goal.returns-in-Aes
 unfolding aes_block
 returns-in-Aes c =
     let seed = c.args.seed in
-    rw c.enum_told-1.given.1 (
+    rw c.in-Aes.is (
       c.encrypt_two-pair.ensures.0 ∙ ap (cipher seed) c.counter.ensures,
       c.encrypt_two-pair.ensures.1 ∙ ap (cipher seed) c.counter-in-Aes.ensures,
     )
 
 pub returns-in-Classroom : goal.returns-in-Classroom
-returns-in-Classroom c = rw c.enum_told-in-Classroom-1.given.1 (c.classroom-first.ensures, c.classroom-second.ensures)
+returns-in-Classroom c = rw c.in-Classroom.is (c.classroom-first.ensures, c.classroom-second.ensures)
