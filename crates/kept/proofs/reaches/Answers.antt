@@ -10,7 +10,7 @@ pub returns-then-rule : goal.returns-then-rule
 returns-then-rule c =
     let z = c.signed in
     rw c.if-rule.true
-    (c.at_least.ensures ∙ ap (le_z (pos c.args.rule.t)) (to_z-of_z w64 z.result (record { sfits = z.type-inv }) ∙ z.ensures))
+    (c.at_least.ensures ∙ ap (le_z (pos c.args.rule.t)) (to_z-of_z w64 z.result (record { sfits = z.type_inv }) ∙ z.ensures))
 
 pub returns : goal.returns
 returns c = rw c.if-rule.false
