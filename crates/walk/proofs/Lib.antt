@@ -1,4 +1,3 @@
-mod Counted
 pub mod Descent
 pub mod PublicTests
 pub mod Siblings

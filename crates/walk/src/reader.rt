@@ -6,7 +6,7 @@ ghost use Rattle.nodes.specs.NodeLayout.{correction_of};
 use nodes::{Correction, level_start};
 
 // A lent public share, its number of levels, and the level that is read next.
-#[derive(Drop)]
+#[derive(Clone, Copy)]
 pub(crate) struct ShareReader<'a> {
     share: &'a [u8],
     levels: u16,
