@@ -77,6 +77,7 @@ module _ (s : Session) where
 
   only-empty : {p : Bits} → p ∈ start → p ≡ []
   only-empty (here e) = e
+  only-empty {p = p} (mathlib.Core.List.Memᴰ.tail x4) = elim x4 [ ]
 
   root-walked : (e : Expander) (i : ℕ) (p : Bits) → p ∈ start → record { seed = seed_at s.seeds i; bit = s.server } ≡ walked_node s e i p
   unfolding node

@@ -7,9 +7,7 @@ use borrow.Author.Tests.{eq-eqb, ne_eqb}
 use lib.Dec.{eqb}
 use Rattle.node_lists.specs.Filling.{filling_first}
 use Rattle.node_lists.specs.declared.Filling.{Filling}
-use borrow.Author.Rules.{rules}
-use Rattle.node_lists.proofs.begin_roots.Statement.{statement}
-use Rattle.node_lists.proofs.begin_roots.Tie as tie
+use Rattle.node_lists.proofs.begin_roots.Goals as goal
 
 -- where a number was found
 begun : (m : ℕ) {k k' l : ℕ} → k ≡ k' → l ≡ cond (eqb k 0) m 0
@@ -17,19 +15,14 @@ begun : (m : ℕ) {k k' l : ℕ} → k ≡ k' → l ≡ cond (eqb k 0) m 0
 begun m {k} {k'} {l} e f =
     let g : l ≡ cond (eqb k' 0) m 0 = f ∙ ap (λ (x : ℕ). cond (eqb x 0) m 0) e in λ i. record { number = e i; left = g i; next = 0 }
 
-returns : tie.Need-returns
+pub returns-then-number-eq0 : goal.returns-then-number-eq0
 unfolding filling_first
-returns c =
-    let h = c.before in
-    let a = h.before.before.args in
-    begun (length a.seeds.now / 16) h.roots-cause.ensures (rw (eq-eqb h.roots-cause.result 0 c.if1.true))
+returns-then-number-eq0 c =
+    let a = c.args in
+    begun (length a.seeds.now / 16) c.roots_cause-number.ensures (rw (eq-eqb c.roots_cause-number.result 0 c.if-number-eq0.true))
 
-returns-2 : tie.Need-returns-2
+pub returns-else-number-eq0 : goal.returns-else-number-eq0
 unfolding filling_first
-returns-2 c =
-    let h = c.before in
-    let a = h.before.before.args in
-    begun (length a.seeds.now / 16) h.roots-cause.ensures (rw (ne_eqb h.roots-cause.result 0 c.if1.false))
-
-pub begin-roots-spec : {M : Type 1} → statement M
-begin-roots-spec = tie.close (tie.spec (λ c κs. search rules) returns returns-2)
+returns-else-number-eq0 c =
+    let a = c.args in
+    begun (length a.seeds.now / 16) c.roots_cause-number.ensures (rw (ne_eqb c.roots_cause-number.result 0 c.if-number-eq0.false))
