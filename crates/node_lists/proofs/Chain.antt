@@ -5,7 +5,7 @@ use native.Mathlib.Nat.{min-eq_left}
 use mathlib.Core.Path.{◌≡◌, refl, sym, ap, ◌∙◌, subst}
 use mathlib.Core.Bool.{true, false}
 use mathlib.Core.List.{List, [], ◌∷◌, map}
-use mathlib.Core.List.Memᴰ.{head as here}
+use mathlib.Core.List.Memᴰ.{head as here, tail as further}
 use lib.ListN.{length, get_or, take}
 use lib.Seq.{get_or-take}
 use Rattle.places.specs.Lists.{◌∈◌}
@@ -77,7 +77,7 @@ module _ (s : Session) where
 
   only-empty : {p : Bits} → p ∈ start → p ≡ []
   only-empty (here e) = e
-  only-empty {p = p} (mathlib.Core.List.Memᴰ.tail x4) = elim x4 [ ]
+  only-empty {p = p} (further h) = elim h [ ]
 
   root-walked : (e : Expander) (i : ℕ) (p : Bits) → p ∈ start → record { seed = seed_at s.seeds i; bit = s.server } ≡ walked_node s e i p
   unfolding node
