@@ -1,3 +1,2 @@
-pub mod Again
 pub mod Folded
 pub mod Steps

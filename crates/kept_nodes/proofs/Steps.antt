@@ -1,9 +1,8 @@
 -- The folds over the turns, one turn at a time.
 use mathlib.Core.Path.{◌≡◌, refl, ap}
-use Prim.Native.Nat.{ℕ, zero, suc}
-use mathlib.Core.Bool.{Bool, true, false}
-use mathlib.Core.List.{List, [], ◌∷◌}
-use lib.Dec.{T as Holds}
+use Prim.Native.Nat.{ℕ, suc, ◌-◌}
+use mathlib.Core.Bool.{Bool}
+use mathlib.Core.List.{List}
 use lib.ListN.{get_or, set}
 use Rattle.nodes.specs.declared.Node.{Node}
 use Rattle.turns.specs.declared.Task.{Task}
@@ -11,21 +10,6 @@ use Rattle.turns.specs.declared.Place.{Place}
 use Rattle.turns.specs.Turns.{turned_node, turned_sums, next_place, no_struct, place_at, nodes_at, sums_at}
 use Rattle.node_lists.specs.declared.Filling.{Filling}
 use Rattle.node_lists.specs.Filling.{root_node, filling_next, filling_at, filled_at}
-
--- a list in which an element is set to itself
-pub set_same : (l : List Node) (i : ℕ) (d : Node) → set l i (get_or l i d) ≡ l
-set_same [] i d = refl
-set_same (x ∷ xs) zero d = refl
-set_same (x ∷ xs) (suc i) d = ap (λ (r : List Node). x ∷ r) (set_same xs i d)
-
--- a truth value from what it stands for
-pub holds : (t : Bool) → Holds t → t ≡ true
-holds true _ = refl
-holds false a = absurd a
-
-pub fails : (t : Bool) → (Holds t → ⊥) → t ≡ false
-fails true f = absurd (f tt)
-fails false _ = refl
 
 -- ---- the turns of a query
 
@@ -72,3 +56,7 @@ module _ (b : Bool) (seeds : List ℕ) (p : Filling) (l : List Node) where
   pub filling-none : p ≡ filling_at b seeds p 0
   unfolding filling_at
   filling-none = refl
+
+pub filling-left : (p : Filling) → (filling_next p).left ≡ p.left - 1
+unfolding filling_next
+filling-left p = refl
