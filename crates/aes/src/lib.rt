@@ -1,4 +1,6 @@
 // AES-128 by FIPS 197. The table of the S-box is made once in each published call and lent to what reads it.
+#![tactic(auto)]
+
 ghost use Rattle.std.specs.Prelude.{◌≡◌};
 ghost use Rattle.aes.specs.Fips197.{s_box_table, round_key, cipher};
 

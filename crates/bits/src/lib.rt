@@ -1,4 +1,6 @@
 // Packed bit strings in slices.
+#![tactic(auto)]
+
 mod child;
 
 ghost use Rattle.std.specs.Prelude.{◌≡◌, false, get_or, drop};

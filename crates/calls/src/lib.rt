@@ -1,4 +1,6 @@
 // What several calls share: the bounds of what they are lent, and what a call that writes into one lent space returns.
+#![tactic(auto)]
+
 ghost use Rattle.std.specs.Prelude.{◌≡◌, ltb};
 ghost use Rattle.calls.specs.Bounds.{most_bits, threshold_most, threshold_number, most_reports, outside};
 

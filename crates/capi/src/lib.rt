@@ -1,4 +1,6 @@
 // The functions that C and Rust link.
+#![tactic(auto)]
+
 ghost use Rattle.std.specs.Prelude.{◌≡◌, map, length};
 ghost use Rattle.calls.specs.Outcome.{left};
 ghost use Rattle.capi.specs.Block.{block_exit};

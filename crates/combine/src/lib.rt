@@ -1,4 +1,6 @@
 // Combining two servers' shares for a query: the next query, the list, or the end of the search.
+#![tactic(auto)]
+
 ghost use Rattle.std.specs.Prelude.{◌≡◌};
 ghost use Rattle.combine.specs.Combine.{combine_exit, told};
 

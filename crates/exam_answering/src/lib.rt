@@ -1,4 +1,6 @@
 // Exam text in, answer text out.
+#![tactic(auto)]
+
 ghost use Rattle.std.specs.Prelude.{◌≡◌};
 ghost use Rattle.calls.specs.Outcome.{left};
 ghost use Rattle.exam_answering.specs.Exam.{exam_exit, respond_exit};

@@ -1,4 +1,6 @@
 // The lines of an answer, and that of a refusal. Every published function answers for all inputs.
+#![tactic(auto)]
+
 ghost use Rattle.std.specs.Prelude.{◌≡◌, length};
 ghost use Rattle.places.specs.Places.{put_at};
 ghost use Rattle.calls.specs.Outcome.{exit, left};

@@ -1,4 +1,6 @@
 // Exam texts read: whether a text is that of a sheet, the numbers of its first line, and its lines one by one; and the line of a key.
+#![tactic(auto)]
+
 ghost use Rattle.std.specs.Prelude.{◌≡◌, true, false};
 ghost use Rattle.bits.specs.Packing.{pack_in};
 ghost use Rattle.exam_text.specs.Reader.{is_sheet, SheetSays, line_at};

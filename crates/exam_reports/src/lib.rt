@@ -1,4 +1,6 @@
 // The reports of an exam sheet: both servers' root seeds, and the public shares.
+#![tactic(auto)]
+
 ghost use Rattle.std.specs.Prelude.{◌≡◌, ◌&&◌, ◌*◌, ◌≤◌, leb};
 ghost use Rattle.point.specs.PublicShare.{public_share_length};
 ghost use Rattle.exam_text.specs.Reader.{read_sheet};

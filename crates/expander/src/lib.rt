@@ -1,4 +1,6 @@
 // Expanders: block j of a seed of 16 bytes, and the XOR of two seeds.
+#![tactic(auto)]
+
 ghost use Rattle.std.specs.Prelude.{◌≡◌, ◌^◌, ◌++◌};
 ghost use Rattle.numbers.specs.Numbers.{big, little};
 ghost use Rattle.expander.specs.Expander.{block_of, classroom_block, is_expander, choice_of, xor_bytes};

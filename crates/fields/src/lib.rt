@@ -1,4 +1,6 @@
 // The fields of a line, each with the one character behind it. A field that has no room is not written at all, and the place itself is given back.
+#![tactic(auto)]
+
 ghost use Rattle.std.specs.Prelude.{◌≡◌, [], ◌∷◌, ◌++◌, ◌+◌, ◌≤◌, ◌<◌, length};
 ghost use Rattle.places.specs.Places.{put_at};
 ghost use Rattle.exam_text.specs.Characters.{glyph, binary, hexadecimal, decimal};

@@ -1,4 +1,6 @@
 // The finite field GF(2^8) of FIPS 197, section 4, and doubling in it.
+#![tactic(auto)]
+
 ghost use Rattle.std.specs.Prelude.{◌≡◌};
 ghost use Rattle.gf256.specs.Field.{◌·◌};
 

@@ -1,4 +1,6 @@
 // Numbers modulo p = 2^64 − 2^32 + 1, on 64-bit words. Every function takes any word for its remainder.
+#![tactic(auto)]
+
 ghost use Rattle.std.specs.Prelude.{◌≡◌, ◌%◌, ◌<◌};
 ghost use Rattle.group.specs.Modular.{p, field};
 

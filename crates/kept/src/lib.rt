@@ -1,4 +1,6 @@
 // The rule by which a prefix is kept.
+#![tactic(auto)]
+
 ghost use Rattle.std.specs.Prelude.{◌≡◌, pos};
 ghost use Rattle.std.specs.Int.Signed.{le_z};
 ghost use Rattle.kept.specs.Kept.{reaches_by};

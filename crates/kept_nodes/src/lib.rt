@@ -1,4 +1,6 @@
 // A server's share from kept nodes, and a list of nodes at the roots.
+#![tactic(auto)]
+
 ghost use Rattle.std.specs.Prelude.{◌≡◌, map, length};
 ghost use Rattle.nodes.specs.NodeLayout.{node_of};
 ghost use Rattle.node_lists.specs.Filling.{filled_at};

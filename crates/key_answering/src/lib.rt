@@ -1,4 +1,6 @@
 // What the program `key` prints for its line.
+#![tactic(auto)]
+
 ghost use Rattle.std.specs.Prelude.{◌≡◌, true, ◌≤◌, length};
 ghost use Rattle.places.specs.Places.{overlay};
 ghost use Rattle.bits.specs.Packing.{pack};

@@ -1,4 +1,6 @@
 // The key maker: the public share of a string with its weight, from its two root seeds.
+#![tactic(auto)]
+
 mod level;
 
 ghost use Rattle.std.specs.Prelude.{◌≡◌, not, ◌||◌, ◌+◌, ◌*◌, ◌/◌, ◌%◌, ◌^◌, ◌≤◌, ◌<◌, length, get_or, set, eqb};

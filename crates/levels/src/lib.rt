@@ -1,4 +1,6 @@
 // The levels of a search: the number of reports, and each query with its totals, into the record area, which is the only workspace; and the list.
+#![tactic(auto)]
+
 mod children;
 mod descent;
 mod heavy;

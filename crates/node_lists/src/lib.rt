@@ -1,4 +1,6 @@
 // Lists of nodes: the causes of the calls that write them, and the nodes at the roots.
+#![tactic(auto)]
+
 ghost use Rattle.std.specs.Prelude.{◌≡◌, not, cond, suc, ◌-◌, ◌*◌, ◌%◌, ◌<◌, length, eqb, ltb};
 ghost use Rattle.calls.specs.Causes.{number_due};
 ghost use Rattle.places.specs.Places.{window};

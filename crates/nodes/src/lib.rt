@@ -1,4 +1,6 @@
 // Nodes of the tree and correction words, by value, the steps that the key maker and the servers share, and where the levels of a public share stand.
+#![tactic(auto)]
+
 ghost use Rattle.std.specs.Prelude.{◌≡◌, ◌%◌, ◌<◌, take};
 ghost use Rattle.numbers.specs.Numbers.{from_little};
 ghost use Rattle.group.specs.Modular.{p};

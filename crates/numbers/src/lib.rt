@@ -1,4 +1,6 @@
 // Numbers as bytes at a place of a slice. What does not lie within the slice is read as zeros and not written at all.
+#![tactic(auto)]
+
 ghost use Rattle.std.specs.Prelude.{◌≡◌, ◌+◌, ◌≤◌, ◌<◌, length};
 ghost use Rattle.places.specs.Places.{window, put_at};
 ghost use Rattle.numbers.specs.Numbers.{little, from_little, big, from_big};

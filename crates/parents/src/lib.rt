@@ -1,4 +1,6 @@
 // The last query and the parents of a new query's prefixes in it. Every published function answers for all inputs.
+#![tactic(auto)]
+
 ghost use Rattle.std.specs.Prelude.{◌≡◌, ◌-◌, ◌≤◌, ◌<◌, get_or, eqb};
 ghost use Rattle.point.specs.PublicShare.{every};
 ghost use Rattle.parents.specs.Parents.{is_last};

@@ -1,1 +1,3 @@
 // The incremental distributed point function: definitions and theorems, no code.
+#![tactic(auto)]
+

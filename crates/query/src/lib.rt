@@ -1,4 +1,6 @@
 // Queries as bytes: their fields, their prefixes in place, and the check of cause 9. Every published function answers for all inputs.
+#![tactic(auto)]
+
 ghost use Rattle.std.specs.Prelude.{◌≡◌, true, map, ◌+◌, ◌*◌, ◌≤◌, ◌<◌, length, take, drop};
 ghost use Rattle.bits.specs.Packing.{packed_length, unpack, spare_zero, bytes_before};
 ghost use Rattle.query.specs.Query.{prefix_length, prefix_count, parts, spares_zero, is_ascending, is_query};

@@ -1,4 +1,6 @@
 // The reports that a server is lent: their lengths, the checks of their public shares, and sums of its shares over them.
+#![tactic(auto)]
+
 mod checks;
 mod reports;
 

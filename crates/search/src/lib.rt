@@ -1,4 +1,6 @@
 // The whole search: its causes of refusal, and then its levels.
+#![tactic(auto)]
+
 mod checks;
 
 ghost use Rattle.std.specs.Prelude.{◌≡◌};

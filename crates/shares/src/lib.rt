@@ -1,4 +1,6 @@
 // Two shares as numbers: whether they match, whether their numbers are below p, and their sums; and the call `add_shares`.
+#![tactic(auto)]
+
 ghost use Rattle.std.specs.Prelude.{◌≡◌, ◌&&◌, ◌≤◌, length};
 ghost use Rattle.numbers.specs.Numbers.{from_little};
 ghost use Rattle.places.specs.Places.{window, overlay};

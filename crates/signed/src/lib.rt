@@ -1,4 +1,6 @@
 // Group numbers read as signed ones, and small signed numbers as group numbers.
+#![tactic(auto)]
+
 ghost use Rattle.std.specs.Prelude.{◌≡◌, ◌<◌};
 ghost use Rattle.group.specs.Modular.{modulus};
 ghost use Rattle.signed.specs.SignedReading.{embed, signed_in};

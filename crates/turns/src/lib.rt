@@ -1,4 +1,6 @@
 // One level down from a list of nodes, in its own place: the task, the place of each turn, and what a turn makes of a node and of the sums.
+#![tactic(auto)]
+
 ghost use Rattle.std.specs.Prelude.{◌≡◌, ◌+◌, ◌*◌, ◌-◌, ◌≤◌, ◌<◌, cond, length, replicate, ltb};
 ghost use Rattle.places.specs.Places.{overlay};
 ghost use Rattle.turns.specs.Turns.{refused_task, task_of, cleared, reply_of, nowhere, place_for, first_place, next_place, turned_node, added_at, turned_sums};

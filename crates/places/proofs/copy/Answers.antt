@@ -1,5 +1,5 @@
 -- `places::copy` meets its contract. Outside nothing is written. The loop's invariant: the first i bytes are pasted. The measure is what is left of them.
-use Prim.Native.Nat.{◌+◌, ◌-◌, ◌≤◌}
+use Prim.Native.Nat.{◌+◌, ◌≤◌}
 use native.Mathlib.Numerals.{add-one}
 use native.Mathlib.Omega.{arith}
 use mathlib.Core.Path.{◌≡◌, refl, sym, ◌∙◌}
