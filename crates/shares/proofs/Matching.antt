@@ -49,6 +49,7 @@ some-large (x ∷ xs) h = go (ltb x p) refl h (some-large xs)
 
 large-fails : (x : ℕ) (xs : List ℕ) → x ∈ xs → p ≤ x → all_below xs ≡ false
 unfolding all_below
+large-fails x [] m l = elim m [ ]
 large-fails x (y ∷ xs) (here e) l = let k : p ≤ y = subst (λ (z : ℕ). p ≤ z) e l in rw (le-ltb y p k)
 large-fails x (y ∷ xs) (there m) l = go (ltb y p) (large-fails x xs m l)
   where
