@@ -190,7 +190,7 @@ module _ (s : Lent) where
   pub list_written : search_number s ≡ 0
       → (list_length s ≡ length (list_bytes s)) × (list_length s ≤ length s.list_area)
       × (list_after s ≡ list_bytes s ++ drop (list_length s) s.list_area)
-  list_written h = (areas.list_length s h, areas.list-room s h, areas.list_written s h)
+  list_written h = (areas.list_length_lem s h, areas.list-room s h, areas.list_written s h)
 
   -- Both areas keep their lengths.
   pub area-lengths : (length (record_after s) ≡ length s.record_area) × (length (list_after s) ≡ length s.list_area)
