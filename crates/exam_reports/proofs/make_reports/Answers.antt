@@ -1,0 +1,94 @@
+-- `exam_reports::make_reports` meets its contract: each test is one of those that the reports are made by, and what is then written are they.
+use mathlib.Core.Path.{◌≡◌, sym, ap, ◌∙◌}
+use mathlib.Core.Bool.{true, false, ◌&&◌}
+use mathlib.Core.List.{List}
+use Prim.Native.Nat.{ℕ, ◌*◌, ◌≤◌}
+use native.Mathlib.Omega.{arith}
+use borrow.Author.Tests.{not-true, not-false, leb-true}
+use lib.ListN.{length}
+use lib.Dec.{leb}
+use Rattle.places.proofs.Lists.{and_left, and_right}
+use Rattle.expander.specs.Expander.{is_expander}
+use Rattle.point.specs.PublicShare.{public_share_length}
+use Rattle.exam_text.specs.Sheet.{expander_number, Within}
+use Rattle.exam_text.specs.Reader.{is_sheet, sheet_of, SheetSays}
+use Rattle.exam_text.proofs.ReaderExact.{sheet-within}
+use Rattle.exam_text.proofs.Placed as placed
+use Rattle.exam_reports.proofs.SheetMaking.{no-sheet, no_bits, no-expander, no_room_lem, all_made}
+use Rattle.exam_reports.proofs.make_reports.Goals as goal
+use Rattle.exam_reports.proofs.make_reports.Goals.{Else-n-lt1, Else-not-fit, Else-not-is_expander, Else-not-sheet}
+
+abbrev text : Else-not-sheet → List ℕ
+text e = e.args.text.now
+
+told : (e : Else-not-sheet) → e.read_sheet-sheet.result.is_sheet ≡ true
+told e = not-false _ e.if-not-sheet.false
+
+read : (e : Else-not-sheet) → is_sheet (text e) ≡ true
+read e = sym e.read_sheet-sheet.ensures.sheet ∙ told e
+
+says : (e : Else-not-sheet) → let r = e.read_sheet-sheet.result in SheetSays (text e) r.n r.t r.count r.expander r.lines
+says e = e.read_sheet-sheet.ensures.says (told e)
+
+within : (e : Else-not-sheet) → Within (sheet_of (text e))
+within e = (sheet-within (text e) (read e)).0
+
+from : (e : Else-n-lt1) → 1 ≤ (sheet_of (e.args.text.now)).n
+from e = omega (arith, e.if-n-lt1.false, (let it : let r = e.read_sheet-sheet.result in SheetSays (e.args.text.now) r.n r.t r.count r.expander r.lines = e.read_sheet-sheet.ensures.says (let it : e.read_sheet-sheet.result.is_sheet ≡ true = not-false _ e.if-not-sheet.false in it) in it).n-read)
+
+known : (e : Else-not-is_expander) → is_expander (expander_number (sheet_of (e.args.text.now)).expander) ≡ true
+known e =
+    ap is_expander (sym (let it : let r = e.read_sheet-sheet.result in SheetSays (e.args.text.now) r.n r.t r.count r.expander r.lines = e.read_sheet-sheet.ensures.says (let it : e.read_sheet-sheet.result.is_sheet ≡ true = not-false _ e.if-not-sheet.false in it) in it).expander-read) ∙ sym e.is_expander.ensures ∙ not-false _ e.if-not-is_expander.false-raw
+
+-- all fit
+passed : (e : Else-not-fit) → e.fit.result ≡ true
+passed e = not-false _ e.if-not-fit.false-raw
+
+rooms : (e : Else-not-fit) → let a = e.args in let r = e.read_sheet-sheet.result in
+    (16 * r.count ≤ length a.seeds0.now) × (16 * r.count ≤ length a.seeds1.now) × (public_share_length r.n * r.count ≤ length a.shares.now)
+rooms e =
+    let a = e.args in
+    let r = e.read_sheet-sheet.result in
+    let all = sym e.fit.ensures ∙ passed e in
+    let first = leb (16 * r.count) (length a.seeds0.now) in
+    let second = leb (16 * r.count) (length a.seeds1.now) in
+    let third = leb (public_share_length r.n * r.count) (length a.shares.now) in
+    let others = and_right first (second && third) all in
+    (leb-true _ _ (and_left first (second && third) all), leb-true _ _ (and_left second third others), leb-true _ _ (and_right second third others))
+
+-- ---- the needs
+pub returns-then-not-sheet : goal.returns-then-not-sheet
+returns-then-not-sheet c =
+    let a = c.args in
+    no-sheet a.text.now a.seeds0.now a.seeds1.now a.shares.now (sym c.read_sheet-sheet.ensures.sheet ∙ not-true _ c.if-not-sheet.true)
+
+pub returns-then-n-lt1 : goal.returns-then-n-lt1
+returns-then-n-lt1 c = no_bits (text (goal.at.returns-then-n-lt1 c).Else-not-sheet) _ _ _ (read (goal.at.returns-then-n-lt1 c).Else-not-sheet) (omega (arith, c.if-n-lt1.true, (says (goal.at.returns-then-n-lt1 c).Else-not-sheet).n-read))
+
+pub returns-then-not-is_expander : goal.returns-then-not-is_expander
+returns-then-not-is_expander c =
+    no-expander (text (goal.at.returns-then-not-is_expander c).Else-not-sheet) _ _ _ (read (goal.at.returns-then-not-is_expander c).Else-not-sheet) (from (goal.at.returns-then-not-is_expander c).Else-n-lt1) (ap is_expander (sym (says (goal.at.returns-then-not-is_expander c).Else-not-sheet).expander-read) ∙ sym c.is_expander.ensures ∙ not-true _ c.if-not-is_expander.true-raw)
+
+pub fit-requires : goal.fit-requires
+fit-requires c =
+    (omega (arith, (says (goal.at.fit-requires c).Else-not-sheet).n-read, (within (goal.at.fit-requires c).Else-not-sheet).n-most), omega (arith, (says (goal.at.fit-requires c).Else-not-sheet).count-read, (within (goal.at.fit-requires c).Else-not-sheet).lines-most))
+
+pub returns-then-not-fit : goal.returns-then-not-fit
+returns-then-not-fit c =
+    no_room_lem (text (goal.at.returns-then-not-fit c).Else-not-sheet) _ _ _ (read (goal.at.returns-then-not-fit c).Else-not-sheet) (from (goal.at.returns-then-not-fit c).Else-n-lt1) (known (goal.at.returns-then-not-fit c).Else-not-is_expander) _ _ (says (goal.at.returns-then-not-fit c).Else-not-sheet).n-read (says (goal.at.returns-then-not-fit c).Else-not-sheet).count-read (sym c.fit.ensures ∙ not-true _ c.if-not-fit.true-raw)
+
+pub write_reports-requires : goal.write_reports-requires
+write_reports-requires c =
+    let s = says (goal.at.write_reports-requires c).Else-not-sheet in record { le_n = (
+        c.if-n-lt1.false,
+        omega (arith, s.n-read, (within (goal.at.write_reports-requires c).Else-not-sheet).n-most),
+        sym c.is_expander.ensures ∙ not-false _ c.if-not-is_expander.false-raw,
+        placed.sheet-laid (text (goal.at.write_reports-requires c).Else-not-sheet) _ _ c.read_sheet-sheet.result.lines s.n-read s.count-read s.lines-placed (read (goal.at.write_reports-requires c).Else-not-sheet),
+      ); count_in_bounds = rooms (goal.at.write_reports-requires c).Else-not-fit }
+
+pub returns : goal.returns
+returns c =
+    let s = says (goal.at.returns c).Else-not-sheet in
+    let r = c.read_sheet-sheet.result in
+    all_made (text (goal.at.returns c).Else-not-sheet) _ _ _ (read (goal.at.returns c).Else-not-sheet) (from (goal.at.returns c).Else-n-lt1) (known (goal.at.returns c).Else-not-is_expander) r.n r.count s.n-read s.count-read (sym c.fit.ensures ∙ passed (goal.at.returns c).Else-not-fit) r.expander r.lines s.expander-read
+    (placed.sheet-lines (text (goal.at.returns c).Else-not-sheet) r.n r.count r.lines s.n-read s.count-read s.lines-placed) _ _ _ c.write_reports.ensures.seeds0_after c.write_reports.ensures.seeds1_after c.write_reports.ensures.shares_after
