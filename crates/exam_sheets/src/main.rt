@@ -1,42 +1,37 @@
 // Answers each exam text of the folder `data` that an argument names: its name, the number, and the answer.
-use libc::STDOUT_FILENO;
+#![tactic(auto)]
+
+use std::io::{BufWriter, Write};
+use std::{env, fs, io};
+use streams::read_text;
 
 // Writes the number for an exam text, and the answer behind it.
-fn show(text: &[u8]) {
-    let mut out = io::large_buffer();
+fn show<W: Write>(text: &[u8], printed: &mut W) -> io::Result<()> {
+    let mut out = [0u8; 65536];
     let reply = exam_answering::answer(text, &mut out);
-    io::print_decimal(STDOUT_FILENO, reply.number);
-    io::write_all(STDOUT_FILENO, b"\n");
-    io::write_all(STDOUT_FILENO, &out[..reply.length as usize]);
+    writeln!(printed, "{}", reply.number)?;
+    printed.write_all(&out[..reply.length as usize])
 }
 
-// Answers the text in a file.
-fn answer_file(path: &[u8]) {
-    let fd = os::open_read(path);
-    if fd < 0 {
-        os::fail(path);
-        return;
-    }
+// Answers the text in a file, up to its end or a read that fails, or says that the file cannot be opened.
+fn answer_file<W: Write>(rt: &HostRuntime, path: &str, printed: &mut W) -> io::Result<()> {
+    let mut file = match fs::open(rt, path) {
+        Ok(file) => file,
+        Err(error) => {
+            let _ = eprintln!(rt; "{path}: {error}");
+            return Ok(());
+        }
+    };
     let mut text = [0u8; 4097];
-    let length = io::read_full(fd, &mut text);
-    libc::close(fd);
-    io::write_all(STDOUT_FILENO, path);
-    io::write_all(STDOUT_FILENO, b" ");
-    show(&text[..length]);
+    let input = read_text(&mut file, &mut text);
+    write!(printed, "{path} ")?;
+    show(&text[..input.length], printed)
 }
 
-// Answers the text in the file that argument i names.
-fn answer_argument(i: usize) {
-    let mut path = io::buffer();
-    let length = os::arg(i, &mut path);
-    answer_file(&path[..length]);
-}
-
-fn main() {
-    let count = os::arg_count();
-    let mut i = 1;
-    while i < count {
-        answer_argument(i);
-        i += 1;
+fn main(rt: HostRuntime) -> io::Result<()> {
+    let mut printed = BufWriter::new(rt.alloc(), rt.stdout())?;
+    for path in env::args(&rt)?.skip(1) {
+        answer_file(&rt, path.as_str(), &mut printed)?;
     }
+    printed.flush()
 }

@@ -1,11 +1,31 @@
 // The key program: a line `n e string seed0 seed1` on standard input, the page of its key on standard output.
-ghost use Rattle.std.specs.Prelude.{◌≤◌, ◌≡◌, length, take};
-ghost use Rattle.io.specs.Counts.{IsPrefixLen};
+#![tactic(auto)]
+
+ghost use Rattle.std.specs.Prelude.{◌≤◌, ◌≡◌, IfErr, IfSome, IsErrOf, OnOk, length, take};
+ghost use Rattle.std.specs.Io.KnownBytes.{Appends, Keeps};
 ghost use Rattle.key_answering.specs.KeyPage.{page_space};
 ghost use Rattle.key_answering.specs.KeyAnswer.{key_output};
+ghost use Rattle.streams.specs.Prefix.{IsPrefixLen};
 
-use libc::{STDERR_FILENO, STDOUT_FILENO};
+use std::fmt;
+use std::io::{Read, Write};
 use streams::read_text;
+
+// Why no answer was written.
+#[derive(Clone, Copy)]
+enum Failure {
+    Unread,
+    Unwritten,
+}
+
+impl fmt::Display for Failure {
+    fn fmt<W: fmt::Write>(&self, f: &mut fmt::Formatter<W>) -> fmt::Result {
+        match self {
+            Failure::Unread => write!(f, "standard input cannot be read"),
+            Failure::Unwritten => write!(f, "standard output cannot be written"),
+        }
+    }
+}
 
 // The whole output for a text at the beginning of `out`, and how many bytes it has.
 fn reply(text: &[u8], out: &mut [u8]) -> usize
@@ -16,21 +36,35 @@ fn reply(text: &[u8], out: &mut [u8]) -> usize
     reply.length as usize
 }
 
-// Writes bytes to standard output, or says that this failed.
-fn put(bytes: &[u8]) {
-    if !io::write_all(STDOUT_FILENO, bytes) {
-        io::write_all(STDERR_FILENO, b"key: standard output cannot be written\n");
+// Writes bytes, or says that this failed.
+fn put<W: Write>(writer: &mut W, bytes: &[u8]) -> Result<(), Failure>
+    ensures ok { OnOk result (Appends (W.contents writer.old) (W.contents writer.new) bytes.now) }
+    ensures err { IfErr result (λ failure. failure ≡ Failure.Unwritten) }
+{
+    match writer.write_all(bytes) {
+        Ok(()) => Ok(()),
+        Err(_) => Err(Failure::Unwritten),
     }
 }
 
-fn main() {
+// Answers what a reader gives, on a writer. Where it is known which bytes the reader has left, the output is that for all of them, although
+// no more than 4,097 are read.
+fn answer<R: Read, W: Write>(reader: &mut R, writer: &mut W) -> Result<(), Failure>
+    ensures ok { OnOk result (IfSome (R.remaining reader.old) (λ bytes. Appends (W.contents writer.old) (W.contents writer.new) (key_output bytes))) }
+    ensures unread { IsErrOf result Failure.Unread → Keeps (W.contents writer.old) (W.contents writer.new) }
+{
     let mut text = [0u8; 4097];
-    let mut out = io::large_buffer();
-    let input = read_text(&mut text);
+    let mut out = [0u8; 65536];
+    let input = read_text(reader, &mut text);
     if input.failed {
-        io::write_all(STDERR_FILENO, b"key: standard input cannot be read\n");
-        return;
+        return Err(Failure::Unread);
     }
     let end = reply(&text[..input.length], &mut out);
-    put(&out[..end]);
+    put(writer, &out[..end])
+}
+
+fn main(rt: HostRuntime) {
+    if let Err(failure) = answer(&mut rt.stdin(), &mut rt.stdout()) {
+        let _ = eprintln!(rt; "key: {failure}");
+    }
 }

@@ -1,37 +1,52 @@
-// Standard input, read into a lent space.
-ghost use Rattle.std.specs.Prelude.{◌+◌, ◌≤◌, ◌≡◌, length, take};
-ghost use Rattle.io.specs.Counts.{IsPrefixLen};
+// What a reader gives, read into a lent space.
+#![tactic(auto)]
 
-use libc::STDIN_FILENO;
+ghost use Rattle.std.specs.Prelude.{◌+◌, ◌≤◌, ◌<◌, ◌≡◌, false, true, IfSome, length, take, drop};
+ghost use Rattle.std.specs.Io.KnownBytes.{Consumes, IsAtEnd};
+ghost use Rattle.streams.specs.Prefix.{IsPrefixLen};
+
+use std::io::Read;
 
 // How many bytes were read, and whether a read failed.
-#[derive(Clone, Copy)]
+#[derive(Drop)]
 pub struct Input {
     pub length: usize,
     pub failed: bool,
 }
 
-// One read into the places from `done` on; the bytes before stay as they are.
-fn read_more(text: &mut [u8], done: usize) -> Input
+// One read into the places from `done` on; the bytes before stay as they are. Where it is known which bytes the reader has left, these are
+// the first of them, and there are none only where no room or no byte is left.
+fn read_more<R: Read>(reader: &mut R, text: &mut [u8], done: usize) -> Input
     requires { done ≤ length text.old }
     ensures room { (done + result.length ≤ length text.old) × (length text.new ≡ length text.old) }
     ensures kept { take done text.new ≡ take done text.old }
+    ensures bytes { Consumes (R.remaining reader.old) (R.remaining reader.new) (take result.length (drop done text.new)) }
+    ensures failure { result.failed ≡ true → result.length ≡ 0 }
+    ensures end { result.failed ≡ false → result.length ≡ 0 → done < length text.new → IsAtEnd (R.remaining reader.new) }
 {
     let part = &mut text[done..];
-    let got = libc::read(STDIN_FILENO, part);
-    Input {
-        length: io::count(got, part),
-        failed: got < 0,
+    match reader.read(part) {
+        Ok(length) => Input {
+            length,
+            failed: false,
+        },
+        Err(_) => Input {
+            length: 0,
+            failed: true,
+        },
     }
 }
 
-// Reads until the input ends, the space is full or a read fails.
-pub fn read_text(text: &mut [u8]) -> Input
-    ensures { IsPrefixLen result.length text.new }
+// Reads until the input ends, the space is full or a read fails. Where it is known which bytes the reader has left, what is read are the first
+// of them, and all of them that have room where no read fails.
+pub fn read_text<R: Read>(reader: &mut R, text: &mut [u8]) -> Input
+    ensures prefix { IsPrefixLen result.length text.new }
+    ensures bytes { Consumes (R.remaining reader.old) (R.remaining reader.new) (take result.length text.new) }
+    ensures cut { result.failed ≡ false → IfSome (R.remaining reader.old) (λ bytes. take result.length text.new ≡ take (length text.new) bytes) }
 {
     let mut done = 0;
     while done < text.len() {
-        let more = read_more(text, done);
+        let more = read_more(reader, text, done);
         if more.failed {
             return Input {
                 length: done,
@@ -49,5 +64,65 @@ pub fn read_text(text: &mut [u8]) -> Input
     Input {
         length: done,
         failed: false,
+    }
+}
+
+#[cfg(test)]
+mod tests {
+    use super::*;
+    use std::io;
+    use std::io::ErrorKind;
+    use std::test::Fail;
+
+    // Gives a byte in each read, and fails when none is left.
+    #[derive(Drop)]
+    struct Failing {
+        left: u8,
+    }
+
+    impl Read for Failing {
+        fn read(&mut self, buf: &mut [u8]) -> io::Result<usize> {
+            if buf.is_empty() {
+                return Ok(0);
+            }
+            if self.left == 0 {
+                return Err(io::Error::from(ErrorKind::Other));
+            }
+            self.left -= 1;
+            buf[0] = b'x';
+            Ok(1)
+        }
+    }
+
+    #[test]
+    fn reads_on_after_a_short_read(rt: HostRuntime) -> Result<(), Fail> {
+        let mut reader = b"short ".as_slice().chain(b"reads".as_slice());
+        let mut text = [b'.'; 16];
+        let input = read_text(&mut reader, &mut text);
+        assert!(rt; !input.failed);
+        assert_eq!(rt; input.length, 11);
+        assert_eq!(rt; text.as_slice(), b"short reads.....".as_slice());
+        Ok(())
+    }
+
+    #[test]
+    fn stops_where_the_space_is_full(rt: HostRuntime) -> Result<(), Fail> {
+        let mut reader = b"short ".as_slice().chain(b"reads".as_slice());
+        let mut text = [b'.'; 8];
+        let input = read_text(&mut reader, &mut text);
+        assert!(rt; !input.failed);
+        assert_eq!(rt; input.length, 8);
+        assert_eq!(rt; text.as_slice(), b"short re".as_slice());
+        Ok(())
+    }
+
+    #[test]
+    fn says_that_a_read_failed(rt: HostRuntime) -> Result<(), Fail> {
+        let mut text = [b'.'; 5];
+        let input = read_text(&mut Failing { left: 3 }, &mut text);
+        assert!(rt; input.failed);
+        assert_eq!(rt; input.length, 3);
+        assert_eq!(rt; text.as_slice(), b"xxx..".as_slice());
+        Ok(())
     }
 }

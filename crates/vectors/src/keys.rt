@@ -1,9 +1,9 @@
 // Keys of chosen strings and both servers' shares of them, as lines in hexadecimal.
+use crate::hexadecimal::Hexadecimal;
 use numbers::{write_be2, write_be4};
 use places::copy;
-
-// Standard output.
-const OUT: i32 = 1;
+use std::io;
+use std::io::Write;
 
 // The root seeds: the bytes 0 to 15 and 16 to 31.
 const SEED0: [u8; 16] = [0, 1, 2, 3, 4, 5, 6, 7, 8, 9, 10, 11, 12, 13, 14, 15];
@@ -15,53 +15,22 @@ const SEED1: [u8; 16] = [
 // The first query: the prefixes `0` and `1`.
 const FIRST: [u8; 8] = [0, 0, 0, 0, 0, 2, 0, 128];
 
-// A number and a space.
-fn number(x: u64) {
-    io::print_decimal(OUT, x);
-    io::write_all(OUT, b" ");
-}
-
 // A server's number.
 fn digit(server: bool) -> u64 {
     if server { 1 } else { 0 }
 }
 
-// A byte in two digits.
-fn byte(x: u8) {
-    io::print_hex(OUT, x as u64, 2);
-}
-
-// Bytes in hexadecimal.
-fn hex(bytes: &[u8]) {
-    let mut i = 0;
-    while i < bytes.len() {
-        byte(bytes[i]);
-        i += 1;
-    }
-}
-
-// Bytes in hexadecimal, and the end of the line.
-fn line(bytes: &[u8]) {
-    hex(bytes);
-    io::write_all(OUT, b"\n");
-}
-
-// The first `end` of the bytes.
-pub(crate) fn first_bytes(bytes: &[u8], end: usize) {
-    if end <= bytes.len() {
-        hex(&bytes[..end]);
-    }
-}
-
 // The first `end` of the bytes, on a line.
-fn beginning(bytes: &[u8], end: usize) {
-    if end <= bytes.len() {
-        line(&bytes[..end]);
+fn beginning<W: Write>(printed: &mut W, bytes: &[u8], end: usize) -> io::Result<()> {
+    if let Some(part) = bytes.get(..end) {
+        writeln!(printed, "{}", Hexadecimal(part))?;
     }
+    Ok(())
 }
 
 // One server's share at a query of prefixes of k bits.
-fn share(
+fn share<W: Write>(
+    printed: &mut W,
     expander: u64,
     n: u64,
     server: bool,
@@ -69,15 +38,11 @@ fn share(
     public_share: &[u8],
     query: &[u8],
     k: u64,
-) {
+) -> io::Result<()> {
     let mut out = [0u8; 16];
     let reply = idpf::share(n, expander, server, seed, public_share, query, &mut out);
-    io::write_all(OUT, b"share ");
-    number(expander);
-    number(n);
-    number(digit(server));
-    number(k);
-    beginning(&out, reply.length as usize);
+    write!(printed, "share {expander} {n} {} {k} ", digit(server))?;
+    beginning(printed, &out, reply.length as usize)
 }
 
 // One less, or 0.
@@ -95,7 +60,8 @@ fn whole_query(n: u64, string: &[u8]) -> [u8; 38] {
 }
 
 // One server's share at the first `end` bytes of a query.
-fn share_whole(
+fn share_whole<W: Write>(
+    printed: &mut W,
     expander: u64,
     n: u64,
     server: bool,
@@ -103,17 +69,27 @@ fn share_whole(
     public_share: &[u8],
     query: &[u8],
     end: usize,
-) {
-    if end <= query.len() {
-        share(expander, n, server, seed, public_share, &query[..end], n);
+) -> io::Result<()> {
+    if let Some(part) = query.get(..end) {
+        share(printed, expander, n, server, seed, public_share, part, n)?;
     }
+    Ok(())
 }
 
 // One server's shares at the first query and at the query of the whole string.
-fn shares(expander: u64, n: u64, string: &[u8], server: bool, seed: &[u8], public_share: &[u8]) {
-    share(expander, n, server, seed, public_share, &FIRST, 1);
+fn shares<W: Write>(
+    printed: &mut W,
+    expander: u64,
+    n: u64,
+    string: &[u8],
+    server: bool,
+    seed: &[u8],
+    public_share: &[u8],
+) -> io::Result<()> {
+    share(printed, expander, n, server, seed, public_share, &FIRST, 1)?;
     let query = whole_query(n, string);
     share_whole(
+        printed,
         expander,
         n,
         server,
@@ -121,35 +97,40 @@ fn shares(expander: u64, n: u64, string: &[u8], server: bool, seed: &[u8], publi
         public_share,
         &query,
         6 + string.len(),
-    );
+    )
 }
 
 // A key of `end` bytes, and both servers' shares.
-fn key(expander: u64, n: u64, string: &[u8], out: &[u8], end: usize) {
-    if end <= out.len() {
-        let public_share = &out[..end];
-        line(public_share);
-        shares(expander, n, string, false, &SEED0, public_share);
-        shares(expander, n, string, true, &SEED1, public_share);
+fn key<W: Write>(
+    printed: &mut W,
+    expander: u64,
+    n: u64,
+    string: &[u8],
+    out: &[u8],
+    end: usize,
+) -> io::Result<()> {
+    if let Some(public_share) = out.get(..end) {
+        writeln!(printed, "{}", Hexadecimal(public_share))?;
+        shares(printed, expander, n, string, false, &SEED0, public_share)?;
+        shares(printed, expander, n, string, true, &SEED1, public_share)?;
     }
+    Ok(())
 }
 
 // The key of a packed string of n bits, and both servers' shares.
-fn report(expander: u64, n: u64, string: &[u8]) {
+fn report<W: Write>(printed: &mut W, expander: u64, n: u64, string: &[u8]) -> io::Result<()> {
     let mut out = [0u8; 6208];
     let reply = keymaker::make_key(n, expander, 1, string, &SEED0, &SEED1, &mut out);
-    io::write_all(OUT, b"key ");
-    number(expander);
-    number(n);
-    key(expander, n, string, &out, reply.length as usize);
+    write!(printed, "key {expander} {n} ")?;
+    key(printed, expander, n, string, &out, reply.length as usize)
 }
 
 // The strings of 1, 2, 8 and 9 bits whose bit i is i * i + i / 3 modulo 2.
-pub(crate) fn short_strings(expander: u64) {
-    report(expander, 1, &[0x00u8]);
-    report(expander, 2, &[0x40u8]);
-    report(expander, 8, &[0x49u8]);
-    report(expander, 9, &[0x49u8, 0x00u8]);
+pub(crate) fn short_strings<W: Write>(printed: &mut W, expander: u64) -> io::Result<()> {
+    report(printed, expander, 1, &[0x00u8])?;
+    report(printed, expander, 2, &[0x40u8])?;
+    report(printed, expander, 8, &[0x49u8])?;
+    report(printed, expander, 9, &[0x49u8, 0x00u8])
 }
 
 // The string of 256 bits by the same rule.
@@ -159,31 +140,29 @@ const LONG: [u8; 32] = [
     0x49u8, 0x24u8, 0x92u8, 0x49u8, 0x24u8, 0x92u8, 0x49u8, 0x24u8,
 ];
 
-pub(crate) fn long_string(expander: u64) {
-    report(expander, 256, &LONG);
+pub(crate) fn long_string<W: Write>(printed: &mut W, expander: u64) -> io::Result<()> {
+    report(printed, expander, 256, &LONG)
 }
 
 // A whole search of that string alone.
-pub(crate) fn long_search(expander: u64) {
-    crate::searches::longest(expander, &LONG, &SEED0, &SEED1);
+pub(crate) fn long_search<W: Write>(printed: &mut W, expander: u64) -> io::Result<()> {
+    crate::searches::longest(printed, expander, &LONG, &SEED0, &SEED1)
 }
 
-// The key of the string `101` with a weight, after its label.
-fn weighted_key(label: &[u8], weight: i16, expander: u64) {
+// The key of the string `101` with a weight.
+fn weighted_key<W: Write>(printed: &mut W, weight: i16, expander: u64) -> io::Result<()> {
     let mut out = [0u8; 73];
     let reply = keymaker::make_key(3, expander, weight, &[0xa0u8], &SEED0, &SEED1, &mut out);
-    io::write_all(OUT, label);
-    number(expander);
-    number(3);
-    beginning(&out, reply.length as usize);
+    write!(printed, "key weight {weight} {expander} 3 ")?;
+    beginning(printed, &out, reply.length as usize)
 }
 
 // Keys with the least weight, with none and with the greatest, under both expanders.
-pub(crate) fn weights() {
-    weighted_key(b"key weight -32768 ", -32768, 1);
-    weighted_key(b"key weight -32768 ", -32768, 2);
-    weighted_key(b"key weight 0 ", 0, 1);
-    weighted_key(b"key weight 0 ", 0, 2);
-    weighted_key(b"key weight 32767 ", 32767, 1);
-    weighted_key(b"key weight 32767 ", 32767, 2);
+pub(crate) fn weights<W: Write>(printed: &mut W) -> io::Result<()> {
+    weighted_key(printed, -32768, 1)?;
+    weighted_key(printed, -32768, 2)?;
+    weighted_key(printed, 0, 1)?;
+    weighted_key(printed, 0, 2)?;
+    weighted_key(printed, 32767, 1)?;
+    weighted_key(printed, 32767, 2)
 }

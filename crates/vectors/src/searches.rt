@@ -1,32 +1,32 @@
 // Whole searches: examples D to J of the sheet, and the bounds of n and t, as lines.
-use crate::keys::first_bytes;
+use crate::hexadecimal::Hexadecimal;
 use numbers::write_le8;
 use places::{copy, read16};
 use search::Found;
-
-// Standard output.
-const OUT: i32 = 1;
+use std::io;
+use std::io::Write;
 
 // The first `end` of the bytes, after a space.
-fn bytes(s: &[u8], end: usize) {
-    io::write_all(OUT, b" ");
-    first_bytes(s, end);
-}
-
-// A number, after a space.
-fn number(x: u64) {
-    io::write_all(OUT, b" ");
-    io::print_decimal(OUT, x);
+fn bytes<W: Write>(printed: &mut W, s: &[u8], end: usize) -> io::Result<()> {
+    write!(printed, " ")?;
+    if let Some(part) = s.get(..end) {
+        write!(printed, "{}", Hexadecimal(part))?;
+    }
+    Ok(())
 }
 
 // The line of a search: its label, number, record and list.
-fn show(label: &[u8], found: Found, record: &[u8], list: &[u8]) {
-    io::write_all(OUT, b"search ");
-    io::write_all(OUT, label);
-    number(found.number);
-    bytes(record, found.record_length as usize);
-    bytes(list, found.list_length as usize);
-    io::write_all(OUT, b"\n");
+fn show<W: Write>(
+    printed: &mut W,
+    label: &str,
+    found: Found,
+    record: &[u8],
+    list: &[u8],
+) -> io::Result<()> {
+    write!(printed, "search {label} {}", found.number)?;
+    bytes(printed, record, found.record_length as usize)?;
+    bytes(printed, list, found.list_length as usize)?;
+    writeln!(printed)
 }
 
 // Root seeds of three reports, which differ in their first bytes.
@@ -88,7 +88,13 @@ fn keys(expander: u64, strings: [u8; 3], seeds0: [u8; 48], seeds1: [u8; 48]) -> 
 }
 
 // A search of three strings of 2 bits with t = 2 and the given room for the record.
-fn example(label: &[u8], expander: u64, strings: [u8; 3], record: &mut [u8]) {
+fn example<W: Write>(
+    printed: &mut W,
+    label: &str,
+    expander: u64,
+    strings: [u8; 3],
+    record: &mut [u8],
+) -> io::Result<()> {
     let seeds0 = seeds(0xfedcba9876543210);
     let seeds1 = seeds(0x0123456789abcdef);
     let shares = keys(expander, strings, seeds0, seeds1);
@@ -96,24 +102,46 @@ fn example(label: &[u8], expander: u64, strings: [u8; 3], record: &mut [u8]) {
     let found = search::search(
         2, false, 2, expander, &seeds0, &shares, &seeds1, &shares, record, &mut list,
     );
-    show(label, found, record, &list);
+    show(printed, label, found, record, &list)
 }
 
 // Examples D, E, F and J.
-pub(crate) fn examples(expander: u64) {
+pub(crate) fn examples<W: Write>(printed: &mut W, expander: u64) -> io::Result<()> {
     let mut record = [255u8; 56];
-    example(b"D", expander, [0x40u8, 0x40u8, 0xc0u8], &mut record);
-    example(b"E", expander, [0x40u8, 0x40u8, 0x80u8], &mut record);
-    example(b"F", expander, [0x40u8, 0x00u8, 0xc0u8], &mut record);
+    example(
+        printed,
+        "D",
+        expander,
+        [0x40u8, 0x40u8, 0xc0u8],
+        &mut record,
+    )?;
+    example(
+        printed,
+        "E",
+        expander,
+        [0x40u8, 0x40u8, 0x80u8],
+        &mut record,
+    )?;
+    example(
+        printed,
+        "F",
+        expander,
+        [0x40u8, 0x00u8, 0xc0u8],
+        &mut record,
+    )?;
     let mut short = [255u8; 55];
-    example(b"J", expander, [0x40u8, 0x40u8, 0xc0u8], &mut short);
-    io::write_all(OUT, b"search record area");
-    bytes(&short, 55);
-    io::write_all(OUT, b"\n");
+    example(printed, "J", expander, [0x40u8, 0x40u8, 0xc0u8], &mut short)?;
+    writeln!(printed, "search record area {}", Hexadecimal(&short))
 }
 
 // A search of one report of 1 bit under expander 2, with t = 1.
-fn one_report(label: &[u8], share: &[u8], seed0: [u8; 16], seed1: [u8; 16]) {
+fn one_report<W: Write>(
+    printed: &mut W,
+    label: &str,
+    share: &[u8],
+    seed0: [u8; 16],
+    seed1: [u8; 16],
+) -> io::Result<()> {
     let mut record = [255u8; 32];
     let mut list = [255u8; 2];
     let found = search::search(
@@ -128,27 +156,33 @@ fn one_report(label: &[u8], share: &[u8], seed0: [u8; 16], seed1: [u8; 16]) {
         &mut record,
         &mut list,
     );
-    show(label, found, &record, &list);
+    show(printed, label, found, &record, &list)
 }
 
 // Examples H, and I with the payload corrections p − 1 and p.
-pub(crate) fn one_bit() {
+pub(crate) fn one_bit<W: Write>(printed: &mut W) -> io::Result<()> {
     let string = [0x80u8];
     let zero = [0u8; 16];
     let mut one = [0u8; 16];
     write_le8(&mut one, 0, 1);
     let mut share = [0u8; 25];
     keymaker::make_key(1, 2, 1, &string, &zero, &zero, &mut share);
-    one_report(b"H", &share, zero, zero);
+    one_report(printed, "H", &share, zero, zero)?;
     keymaker::make_key(1, 2, 1, &string, &zero, &one, &mut share);
     write_le8(&mut share, 17, 18446744069414584320);
-    one_report(b"I p - 1", &share, zero, one);
+    one_report(printed, "I p - 1", &share, zero, one)?;
     write_le8(&mut share, 17, 18446744069414584321);
-    one_report(b"I p", &share, zero, one);
+    one_report(printed, "I p", &share, zero, one)
 }
 
 // A search of no reports, weighted or not, with room for two totals.
-pub(crate) fn bounds(label: &[u8], n: u64, weighted: bool, t: u64) {
+pub(crate) fn bounds<W: Write>(
+    printed: &mut W,
+    label: &str,
+    n: u64,
+    weighted: bool,
+    t: u64,
+) -> io::Result<()> {
     let none = [0u8; 0];
     let mut record = [255u8; 32];
     let mut list = [255u8; 1];
@@ -164,11 +198,17 @@ pub(crate) fn bounds(label: &[u8], n: u64, weighted: bool, t: u64) {
         &mut record,
         &mut list,
     );
-    show(label, found, &record, &list);
+    show(printed, label, found, &record, &list)
 }
 
 // A search of one string of 256 bits, with t = 1: its number, the lengths of its record and list, and the list.
-pub(crate) fn longest(expander: u64, string: &[u8], seed0: &[u8], seed1: &[u8]) {
+pub(crate) fn longest<W: Write>(
+    printed: &mut W,
+    expander: u64,
+    string: &[u8],
+    seed0: &[u8],
+    seed1: &[u8],
+) -> io::Result<()> {
     let mut share = [0u8; 6208];
     keymaker::make_key(256, expander, 1, string, seed0, seed1, &mut share);
     let mut record = [0u8; 14088];
@@ -185,15 +225,17 @@ pub(crate) fn longest(expander: u64, string: &[u8], seed0: &[u8], seed1: &[u8]) 
         &mut record,
         &mut list,
     );
-    io::write_all(OUT, b"search 256 bits");
-    number(found.number);
-    number(found.record_length);
-    bytes(&list, found.list_length as usize);
-    io::write_all(OUT, b"\n");
+    write!(
+        printed,
+        "search 256 bits {} {}",
+        found.number, found.record_length
+    )?;
+    bytes(printed, &list, found.list_length as usize)?;
+    writeln!(printed)
 }
 
 // A weighted search of the strings `01`, `01`, `11` and `10`, whose weights are 5, −2, −7 and 4: `0` reaches the threshold 2, and `1` has a negative total.
-pub(crate) fn weighted() {
+pub(crate) fn weighted<W: Write>(printed: &mut W) -> io::Result<()> {
     let mut shares = [0u8; 196];
     put_key(2, 5, 0x40, [1u8; 16], [2u8; 16], &mut shares, 0);
     put_key(2, -2, 0x40, [3u8; 16], [4u8; 16], &mut shares, 49);
@@ -217,7 +259,7 @@ pub(crate) fn weighted() {
         &mut record,
         &mut list,
     );
-    show(b"weighted", found, &record, &list);
+    show(printed, "weighted", found, &record, &list)
 }
 
 // Four root seeds, each of one byte repeated.

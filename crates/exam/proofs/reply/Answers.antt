@@ -1,0 +1,19 @@
+-- In this space `respond` leaves the whole output at the beginning, and its length is that of the output.
+use Rattle.std.proofs.Common.{ap, ap₂, sym, ◌∙◌, take, length-take-le}
+use Rattle.std.proofs.Math.Seq.{take-append_seam}
+use Rattle.places.specs.Places.{overlay}
+use Rattle.calls.specs.Outcome.{Outcome, Exit, exit}
+use Rattle.exam_answering.specs.Exam.{output}
+use Rattle.exam_lines.proofs.Inside.{inside}
+use Rattle.exam_answering.proofs.Outputs.{respond-enough}
+use Rattle.exam.proofs.reply.Goals as goal
+
+pub returns : goal.returns
+unfolding overlay
+returns c =
+    let a = c.args in
+    let is = c.respond-reply.ensures ∙ ap (λ (o : Outcome). exit o a.out.now) (respond-enough a.text.now _ c.requires) in
+    let size = ap (λ (x : Exit). x.length) is in
+    let area = ap (λ (x : Exit). x.area) is in
+    let fits = inside _ (output a.text.now) a.out.now _ size area in
+    ((fits, sym (length-take-le _ _ fits)), ap₂ take size area ∙ take-append_seam (output a.text.now) _)
