@@ -1,4 +1,4 @@
-// The functions that C and Rust link.
+// The functions that C and Rust link, which crate `capi_c` exports.
 #![tactic(auto)]
 
 ghost use Rattle.std.specs.Prelude.{◌≡◌, map, length};
@@ -22,8 +22,7 @@ use nodes::Node;
 use search::Found;
 
 // Writes block j of a seed of 16 bytes; refuses with 3, 4 or 11.
-#[unsafe(no_mangle)]
-pub extern "C" fn tally_block(expander: u64, seed: &[u8], j: u64, block: &mut [u8]) -> Reply
+pub fn tally_block(expander: u64, seed: &[u8], j: u64, block: &mut [u8]) -> Reply
     ensures { left result block.new ≡ block_exit expander seed.now j block.old }
 {
     match expander::choose(expander) {
@@ -55,8 +54,7 @@ pub extern "C" fn tally_block(expander: u64, seed: &[u8], j: u64, block: &mut [u
 }
 
 // Writes the public share of a packed string of n bits with its weight; refuses with 1, 3, 4, 7 or 11.
-#[unsafe(no_mangle)]
-pub extern "C" fn tally_key(
+pub fn tally_key(
     n: u64,
     expander: u64,
     weight: i16,
@@ -73,8 +71,7 @@ pub extern "C" fn tally_key(
 
 // Writes a server's share for a query, 8 bytes a prefix; the server is told by a truth value, true for 1. Refuses with 1, 3, 4, 5, 6,
 // 7, 9 or 11.
-#[unsafe(no_mangle)]
-pub extern "C" fn tally_share(
+pub fn tally_share(
     n: u64,
     expander: u64,
     server: bool,
@@ -90,8 +87,7 @@ pub extern "C" fn tally_share(
 }
 
 // Writes the list of nodes at the roots: for each seed a node with it and the server's bit. Returns 4, 5 or 13 where it refuses, and else 0.
-#[unsafe(no_mangle)]
-pub extern "C" fn tally_roots(server: bool, seeds: &[u8], nodes: &mut [Node]) -> u64
+pub fn tally_roots(server: bool, seeds: &[u8], nodes: &mut [Node]) -> u64
     ensures { (result ≡ roots_number seeds.now (length nodes.old))
         × (map node_of nodes.new ≡ roots_after server seeds.now (map node_of nodes.old)) }
 {
@@ -100,8 +96,7 @@ pub extern "C" fn tally_roots(server: bool, seeds: &[u8], nodes: &mut [Node]) ->
 
 // Writes a server's share for a query from the nodes kept at the last one, and leaves in their place those at the new one; no bytes are lent for the last
 // query where the nodes are at the roots. Refuses with 1, 3, 4, 5, 6, 7, 9, 13, 14 or 11.
-#[unsafe(no_mangle)]
-pub extern "C" fn tally_share_kept(
+pub fn tally_share_kept(
     n: u64,
     expander: u64,
     server: bool,
@@ -127,8 +122,7 @@ pub extern "C" fn tally_share_kept(
 }
 
 // Writes the sum, number by number, of two shares of one server for one query; refuses with 4, 6 or 11.
-#[unsafe(no_mangle)]
-pub extern "C" fn tally_add(share0: &[u8], share1: &[u8], out: &mut [u8]) -> Reply
+pub fn tally_add(share0: &[u8], share1: &[u8], out: &mut [u8]) -> Reply
     ensures { left result out.new ≡ add_exit share0.now share1.now out.old }
 {
     shares::add_shares(share0, share1, out)
@@ -146,8 +140,7 @@ pub struct CombineReply {
 
 // Writes the next query, or at length n the list, from two servers' shares for a query; refuses with 1, 2, 4, 6, 9 or 11, and with 12 in the place of 2
 // where the search is weighted.
-#[unsafe(no_mangle)]
-pub extern "C" fn tally_combine(
+pub fn tally_combine(
     n: u64,
     weighted: bool,
     t: u64,
@@ -184,8 +177,7 @@ pub extern "C" fn tally_combine(
 
 // Writes the record and the list of a whole search; refuses with 1 to 8, with 12 in the place of 2 where it is weighted, or with 11, and then makes every
 // byte of the record area zero.
-#[unsafe(no_mangle)]
-pub extern "C" fn tally_search(
+pub fn tally_search(
     n: u64,
     weighted: bool,
     t: u64,
@@ -216,32 +208,28 @@ pub extern "C" fn tally_search(
 }
 
 // Answers an exam text: a line for each queried prefix, then the heavy strings; refuses with 10, 1, 2, 3 or 11.
-#[unsafe(no_mangle)]
-pub extern "C" fn tally_exam(text: &[u8], out: &mut [u8]) -> Reply
+pub fn tally_exam(text: &[u8], out: &mut [u8]) -> Reply
     ensures { left result out.new ≡ exam_exit text.now out.old }
 {
     exam_answering::answer(text, out)
 }
 
 // Writes the whole output for an exam text: the answer, or the line of the refusal; refuses with 11 where it does not fit.
-#[unsafe(no_mangle)]
-pub extern "C" fn tally_respond(text: &[u8], out: &mut [u8]) -> Reply
+pub fn tally_respond(text: &[u8], out: &mut [u8]) -> Reply
     ensures { left result out.new ≡ respond_exit text.now out.old }
 {
     exam_answering::respond(text, out)
 }
 
 // Space that is enough for the record of a search over this many honest reports; 0 where an argument is outside its bounds.
-#[unsafe(no_mangle)]
-pub extern "C" fn tally_record_space(n: u64, weighted: bool, t: u64, reports: u64) -> u64
+pub fn tally_record_space(n: u64, weighted: bool, t: u64, reports: u64) -> u64
     ensures { result ≡ named_record_space n weighted t reports }
 {
     space::record_space(n, weighted, t, reports)
 }
 
 // Space that is enough for the list of a search over this many honest reports; 0 where an argument is outside its bounds.
-#[unsafe(no_mangle)]
-pub extern "C" fn tally_list_space(n: u64, weighted: bool, t: u64, reports: u64) -> u64
+pub fn tally_list_space(n: u64, weighted: bool, t: u64, reports: u64) -> u64
     ensures { result ≡ named_list_space n weighted t reports }
 {
     space::list_space(n, weighted, t, reports)
