@@ -14,7 +14,7 @@ fault() {
 # tree NAME: a fresh checkout with nothing built
 tree() {
     here=$work/$1
-    mkdir -p "$here/crates/exam/src" "$here/tools" "$here/kit"
+    mkdir -p "$here/crates/exam/src" "$here/crates/key" "$here/tools" "$here/kit"
     cp exam key "$here/"
     cp tools/program.sh tools/explain.py "$here/tools/"
     echo 'exam:' >"$here/crates.txt"
@@ -37,8 +37,9 @@ END
 kit=$(dirname "$0")
 case $1 in
     version) cat "$kit/version" ;;
-    check)
-        echo "$2" >>"$kit/builds"
+    run)
+        crate=${PWD##*/}
+        echo "$crate" >>"$kit/builds"
         mkdir "$kit/busy" || echo 'two builds at once' >>"$kit/builds"
         sleep 0.5
         rmdir "$kit/busy"
@@ -46,10 +47,10 @@ case $1 in
             unproved) echo 'logic=not-proved'; exit 1 ;;
             broken) echo 'no space left on device'; exit 1 ;;
             slow) sleep 300 & echo $! >"$kit/worker"; wait ;;
-            changing) echo '// meanwhile' >>crates/exam/src/main.rt ;;
+            changing) echo '// meanwhile' >>../exam/src/main.rt ;;
         esac
-        mkdir -p target/bin
-        cp "$kit/program" "target/bin/$2"
+        mkdir -p out
+        cp "$kit/program" "out/$crate"
         ;;
 esac
 END
@@ -147,6 +148,18 @@ echo '// a third' >>"$here/crates/exam/src/main.rt"
 echo unproved >"$here/kit/behaviour"
 expect 1 hello 'is not proved'
 expect 1 hello 'is not proved'
+
+# what the kit leaves beside the sources counts as none of them, and what the gate has just proved is taken as it is
+tree taken
+expect 0 hello 'answer to hello'
+echo '// left' >"$here/crates/exam/out/left.rt"
+expect 0 hello 'answer to hello'
+[ "$(builds)" -eq 1 ] || fault 'built again for what the kit left'
+echo '// another' >>"$here/crates/exam/src/main.rt"
+PROVED_HERE=yes expect 0 hello 'answer to hello'
+[ "$(builds)" -eq 1 ] || fault 'built again though the gate has just proved it'
+expect 0 hello 'answer to hello'
+[ "$(builds)" -eq 1 ] || fault 'built again after the gate'
 
 # a source that changes during the build
 tree changing

@@ -84,7 +84,7 @@ run=(env -i PATH=/usr/bin:/bin HOME="$work")
 
 # the commits in an archive of a checkout that went on after its programs were built, with a stand-in for the kit that builds what is built here
 tree=$work/tree
-mkdir -p "$tree/kit" "$tree/tools" "$tree/crates/exam" "$tree/docs"
+mkdir -p "$tree/kit" "$tree/tools" "$tree/crates/exam" "$tree/crates/key" "$tree/docs"
 cp exam key "$tree/"
 cp tools/program.sh tools/package tools/explain.py tools/mark "$tree/tools/"
 cp -r docs/EXAM.md docs/sheets docs/keys docs/drawings "$tree/docs/"
@@ -94,7 +94,7 @@ cat >"$tree/kit/rt" <<END
 #!/usr/bin/env bash
 case \$1 in
     version) echo kit one ;;
-    check) mkdir -p target/bin && cp "$PWD/target/bin/\$2" target/bin/ ;;
+    run) mkdir -p out && cp "$PWD/target/bin/\${PWD##*/}" out/ ;;
 esac
 END
 chmod +x "$tree/kit/rt"

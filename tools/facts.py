@@ -1,32 +1,25 @@
 #!/usr/bin/env python3
-"""facts.py: after `rt ci`, that each must-fail edit was refused because a fact no longer holds: the first error of its log is not that a name, a field
-or a step of the proof is missing. Prints the others, and then its status is 1."""
+"""facts.py LOG: from what `rt ci` printed, that each must-fail edit was refused because a fact no longer holds: not because a name, a field or a step of a
+proof is missing, nor only by a limit of the prover. Prints the others, and then its status is 1.
+
+`rt ci` prints a line for each edit, also where an earlier run tried it: what the prover said first, past the proof files that name what the edit took away."""
 import glob
-import os
 import re
 import sys
 
-MISSING = re.compile(r"is not in scope|has no field|has no `Tie`|differ only where one has `[^`]*\.Lts\.(After|Then|Else|In|At|Start)|cannot be applied|does not take")
-
-
-def first_error(path):
-    lines = open(path).read().split("\n")
-    for i, line in enumerate(lines):
-        if ": error:" in line or "it is not proved that" in line:
-            return " ".join(lines[i:i + 2])
-    return ""
+LINE = re.compile(r"(?m)^(?:rt: )?must-fail (\w+)/([\w.-]+)\.edit: (.*)$")
+REFUSED = "refused, as it must be: "
+MISSING = re.compile(r"is not in scope|has no field|has no `|has no cases|is no name|cannot be applied|does not take|expected answers in|was not admitted")
 
 
 def main():
+    said = {(crate, name): words for crate, name, words in LINE.findall(open(sys.argv[1], encoding="utf-8", errors="replace").read())}
     faults = []
     for edit in sorted(glob.glob("crates/*/must-fail/*.edit")):
-        path = "target/must-fail/%s/%s/.log" % (edit.split("/")[1], edit.split("/")[3][:-5])
-        if not os.path.isfile(path):
-            faults.append("%s: it has no log" % edit)
-            continue
-        error = first_error(path)
-        if not error or MISSING.search(error) or "is not in scope: add" in open(path).read():
-            faults.append("%s: %s" % ("/".join(path.split("/")[2:4]), error[-300:] or "no error in its log"))
+        crate, name = edit.split("/")[1], edit.split("/")[3][:-len(".edit")]
+        words = said.get((crate, name), "rt ci says nothing of it")
+        if not words.startswith(REFUSED) or MISSING.search(words):
+            faults.append("%s/%s: %s" % (crate, name, words[-300:]))
     if faults:
         sys.exit("refused for another reason than a fact:\n" + "\n".join(faults))
     print("every edit was refused at a fact")

@@ -41,9 +41,12 @@ if [ -f "$home/PACKAGE" ]; then
     built=$home/bin/$name.built
 fi
 
-# what the program is made of: every source, definition and proof
+# where the kit leaves the program
+made=crates/$name/out/$name
+
+# what the program is made of: every source, definition and proof, and nothing that the kit left beside them
 sources() {
-    (cd "$home" && find crates crates.txt -type f \( -name '*.rt' -o -name '*.antt' -o -name crates.txt \) -print0 | LC_ALL=C sort -z | xargs -0 sha256sum | sha256sum | cut -d ' ' -f 1)
+    (cd "$home" && find crates crates.txt -path 'crates/*/out' -prune -o -type f \( -name '*.rt' -o -name '*.antt' -o -name crates.txt \) -print0 | LC_ALL=C sort -z | xargs -0 sha256sum | sha256sum | cut -d ' ' -f 1)
 }
 
 kit() {
@@ -84,6 +87,29 @@ not_whole() {
     fail "this package is not whole: $program or $built is missing"
 }
 
+# has the kit prove and build it; the kit also runs it, on no input
+prove() {
+    echo "$name: proving and building the program, which may take some minutes" >&2
+    local log=$target/$name.log worker status
+    setsid bash -c 'cd "$1/crates/$2" && exec rt run' _ "$home" "$name" >"$log" 2>&1 </dev/null 9>&- &
+    worker=$!
+    trap 'kill -TERM -- "-$worker" 2>/dev/null; wait "$worker" 2>/dev/null; echo "$name: the build was interrupted" >&2; exit 1' INT TERM HUP
+    wait "$worker"
+    status=$?
+    trap - INT TERM HUP
+    if [ "$status" -ne 0 ]; then
+        tail -n 20 "$log" >&2
+        if grep -qE 'logic=not-proved|no proof:|it is not proved that' "$log"; then
+            fail "the program is not proved (all that the check said is in $log)"
+        elif [ "$status" -gt 128 ]; then
+            fail 'the build was interrupted'
+        else
+            fail "the program could not be built (all that was said is in $log)"
+        fi
+    fi
+    [ -x "$home/$made" ] || fail "the check passed, but built no program; remove the folder crates/$name/out and try again"
+}
+
 # proves and builds it, once for all who ask at the same time, and never beside the other program's build
 build() {
     [ "$packaged" = no ] || not_whole
@@ -101,25 +127,9 @@ build() {
     rm -f "$built" || fail "there is no right to write $target"
     local of by from
     of=$(sources) by=$(kit) from=$(commit 9>&-)
-    echo "$name: proving and building the program, which may take some minutes" >&2
-    local log=$target/$name.log worker status
-    setsid bash -c 'cd "$1" && exec rt check "$2"' _ "$home" "$name" >"$log" 2>&1 </dev/null 9>&- &
-    worker=$!
-    trap 'kill -TERM -- "-$worker" 2>/dev/null; wait "$worker" 2>/dev/null; echo "$name: the build was interrupted" >&2; exit 1' INT TERM HUP
-    wait "$worker"
-    status=$?
-    trap - INT TERM HUP
-    if [ "$status" -ne 0 ]; then
-        tail -n 20 "$log" >&2
-        if grep -qE 'logic=not-proved|no proof:|it is not proved that' "$log"; then
-            fail "the program is not proved (all that the check said is in $log)"
-        elif [ "$status" -gt 128 ]; then
-            fail 'the build was interrupted'
-        else
-            fail "the program could not be built (all that was said is in $log)"
-        fi
-    fi
-    [ -x "$program" ] || fail 'the check passed, but built no program; remove the folder target and try again'
+    # The gate sets PROVED_HERE where `rt ci` has just proved and built the program of these sources here.
+    [ "${PROVED_HERE-}" = yes ] && [ -x "$home/$made" ] || prove
+    mkdir -p "$target/bin" && cp "$home/$made" "$program.new" && mv -f "$program.new" "$program" || fail "there is no right to write $target"
     [ "$of" = "$(sources)" ] || fail 'a source was changed while the program was built; try again'
     printf '%s\n%s\n%s\n' "$of" "$by" "$from" >"$built" || fail "there is no right to write $target"
     exec 9>&-
