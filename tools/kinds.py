@@ -12,11 +12,24 @@ PAGE = "docs/CONTRACTS.md"
 TITLE = "## Every edit, by what it changes\n"
 
 
+CLAUSE = re.compile(r"(?:\b(?:requires|ensures|invariant|decreases)\b\*?[^{};\n]*|\bghost \w+[^{};\n]*)\{|\bghost use [^;]*;")
+
+
+def clauses(text):
+    """Where clauses and ghost items stand in a file of src/: from the word to the brace that closes it."""
+    for found in CLAUSE.finditer(text):
+        end, depth = found.end(), 1 if found[0].endswith("{") else 0
+        while depth and end < len(text):
+            depth += {"{": 1, "}": -1}.get(text[end], 0)
+            end += 1
+        yield found.start(), end
+
+
 def in_clause(path, old):
     """Whether a text of a file in src/ stands in a clause, or has an end of one in it."""
     text = open(path, encoding="utf-8").read()
-    before = text[:text.find(old)] if old in text else ""
-    return bool(re.search(r"⌜|⌝", old)) or before.rfind("⌝") < before.rfind("⌜")
+    at = text.find(old)
+    return at >= 0 and any(start < at + len(old) and at < end for start, end in clauses(text))
 
 
 def kinds(path):
