@@ -64,14 +64,14 @@ for folder in "${folders[@]}"; do
     [ -x "$folder/rt" ] || plain=${plain:+$plain:}$folder
 done
 tree=$work/tree
-mkdir -p "$tree/tools" "$tree/include" "$tree/kit"
-cp tools/install "$tree/tools/install"
+mkdir -p "$tree/tools" "$tree/include" "$tree/kit" "$tree/crates/capi_c"
+cp tools/install tools/library "$tree/tools/"
 cp include/tally.h "$tree/include/tally.h"
 PATH=$plain expect 1 'the Rattle kit is needed' "$tree/tools/install" "$work/other"
 [ ! -e "$work/other" ] || fault 'something was written without a library'
 printf '#!/usr/bin/env bash\nexit 1\n' >"$tree/kit/rt"
 chmod +x "$tree/kit/rt"
 PATH=$tree/kit:$plain expect 1 'could not be built' "$tree/tools/install" "$work/other"
-printf '#!/usr/bin/env bash\n[ "$*" = "staticlib capi" ] && mkdir -p target/staticlib && echo built >target/staticlib/libcapi.a\n' >"$tree/kit/rt"
+printf '#!/usr/bin/env bash\n[ "$*" = lib ] && [ "${PWD##*/}" = capi_c ] && mkdir -p out && echo built >out/libcapi_c.a\n' >"$tree/kit/rt"
 PATH=$tree/kit:$plain expect 0 'lib/libcapi.a' "$tree/tools/install" "$work/other"
 [ "$(cat "$work/other/lib/libcapi.a")" = built ] || fault 'another library than the one that was built'
