@@ -21,8 +21,8 @@
 //   zero. No call judges both 2 and 12: 12 stands in the place of 2 where the call is weighted.
 // - tally_respond refuses with 11 alone: where 10, 1, 2 or 3 applies, it writes the line that names the number, and returns 0 and that line's
 //   length.
-// - It takes stack for each bit of n: a search with n = 256 was measured at 214 KiB on x86-64, so a thread should have 256 KiB or more;
-//   tally_exam and tally_respond ran in 128 KiB.
+// - It takes stack for each bit of n: a search with n = 256 was measured at 214 KiB on x86-64, as the kit before this one built it,
+//   so a thread should have 256 KiB or more; tally_exam and tally_respond ran in 128 KiB.
 // - The archive is not instrumented: a caller's sanitizer sees the caller's own reads and writes, and the library's where they go through a
 //   memcpy or memset that the sanitizer has replaced, but no others inside a call, and one that looks for bytes never written may take what a
 //   call wrote or returned for such.

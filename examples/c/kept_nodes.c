@@ -1,7 +1,7 @@
 // Seven installations hold strings of four bits; two servers that keep their nodes and a collector find which strings at least two of them hold.
 // Then the whole search on the same reports has to give the same record and list.
 //
-// From the top of the repository, after `rt staticlib capi`:
+// From the top of the repository, after `tools/library`:
 //
 //     cc -std=c11 -O2 -Iinclude examples/c/kept_nodes.c target/staticlib/libcapi.a -o target/kept_nodes && target/kept_nodes
 

@@ -1,7 +1,7 @@
 // For collectors that expect a count of reports beside the result: the record of a search piece by piece, which begins with that number. The
 // strings are 01, 01 and 11, as in example D of the scope paper; then come too little space, no reports, and weights that cancel.
 //
-// From the top of the repository, after `rt staticlib capi`:
+// From the top of the repository, after `tools/library`:
 //
 //     cc -std=c11 -O2 -Iinclude examples/c/report_count.c target/staticlib/libcapi.a -o target/report_count && target/report_count
 

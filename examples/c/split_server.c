@@ -1,7 +1,7 @@
 // Two servers, each with its reports on two machines. A machine makes the share of its own reports, tally_add adds the two, and the sum has to
 // be the share of all. The collector checks in each round that the totals add up. At the end comes a search over no reports.
 //
-// From the top of the repository, after `rt staticlib capi`:
+// From the top of the repository, after `tools/library`:
 //
 //     cc -std=c11 -O2 -Iinclude examples/c/split_server.c target/staticlib/libcapi.a -o target/split_server && target/split_server
 

@@ -1,7 +1,7 @@
 // Three installations hold the strings 01, 01 and 11; two servers and a collector find which string at least two of them hold.
 // Then the whole search on the same reports has to give the same record and list.
 //
-// From the top of the repository, after `rt staticlib capi`:
+// From the top of the repository, after `tools/library`:
 //
 //     cc -std=c11 -O2 -Iinclude examples/c/two_servers.c target/staticlib/libcapi.a -o target/two_servers && target/two_servers
 

@@ -1,7 +1,7 @@
 // Six installations report how many bytes a feature saved them, where a number below 0 is a loss. The features have names of three bits. A weighted
 // search finds the features whose savings, and those of each group of features whose names begin alike, add to at least 1,000 bytes.
 //
-// From the top of the repository, after `rt staticlib capi`:
+// From the top of the repository, after `tools/library`:
 //
 //     cc -std=c11 -O2 -Iinclude examples/c/weights.c target/staticlib/libcapi.a -o target/weights && target/weights
 

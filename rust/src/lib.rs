@@ -24,7 +24,7 @@
 //!
 //! # Where the library is looked for
 //!
-//! `rt staticlib capi`, at the top of the repository, proves the library and writes it to `target/staticlib/libcapi.a`. The crate links that
+//! `tools/library`, at the top of the repository, proves the library and writes it to `target/staticlib/libcapi.a`. The crate links that
 //! file, which has to be there before `cargo build`. Where it lies in another folder, the environment variable `CAPI_FOLDER` names the folder,
 //! by an absolute path or by one from the folder `rust`; empty, it counts as unset:
 //!

@@ -16,7 +16,7 @@ fn main() {
     let library = folder.join("libcapi.a");
     if !library.is_file() {
         eprintln!("There is no {}.", library.display());
-        eprintln!("Run `rt staticlib capi` at the top of the repository, or name the library's folder in CAPI_FOLDER.");
+        eprintln!("Run `tools/library` at the top of the repository, or name the library's folder in CAPI_FOLDER.");
         exit(1);
     }
     println!("cargo:rustc-link-search=native={}", folder.display());
