@@ -1,5 +1,6 @@
 #!/usr/bin/env python3
-"""times.py LOG [WHOLE]: the times of a run of the gate, of the log of `rt ci`: prints a table by crate and writes target/times.txt.
+"""times.py LOG [WHOLE]: the times of a run of the gate, of a log of `rt ci` that has them: prints a table by crate and writes target/times.txt.
+Since the kit rattle-kit-13f `rt ci` prints no times of crates and edits, and it is then said that the log has none.
 times.py OLD NEW TITLE: sets two such files side by side, the old one scaled to the machine of the new one, and prints the rows for a landing's note.
 
 WHOLE is how many seconds the whole gate took so far. Times of crates are seconds of one core. A line of the file is a crate, the fingerprint of
@@ -68,6 +69,8 @@ def table(crates):
 
 def record(log, whole):
     crates = of_log(open(log).read())
+    if not crates:
+        sys.exit("times: %s has no times of crates" % log)
     checks, _, edits = all_of(crates)
     sums = dict(zip(SUMS, (checks + edits, whole, processor_seconds())))
     os.makedirs("target", exist_ok=True)
