@@ -6,7 +6,7 @@ import sys
 
 FROM, TO = "crates/capi/src/lib.rt", "crates/capi_c/src/lib.rt"
 EXPORTED = '#[unsafe(no_mangle)]\npub extern "C" fn'
-FUNCTION = re.compile(r"((?://[^\n]*\n)+)(?:#\[[^\n]*\]\n)*(pub(?: extern \"C\")? fn) (\w+)\((.*?)\)( -> \w+)?\n((?:    (?:ensures|requires)\b.*?\n)+?)\{\n.*?\n\}\n", re.S)
+FUNCTION = re.compile(r"((?://[^\n]*\n)+)(?:#\[[^\]]*\]\n)*(pub(?: extern \"C\")? fn) (\w+)\((.*?)\)( -> \w+)?\n((?:    (?:ensures|requires)\b.*?\n)+?)\{\n.*?\n\}\n", re.S)
 HEAD = "// The exports of the static library: each calls the function of crate `capi` that has its name.\n#![tactic(auto)]\n"
 
 
