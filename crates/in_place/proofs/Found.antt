@@ -33,7 +33,6 @@ use Rattle.node_lists.proofs.ByReport.{by-report-length, by-report-at}
 use Rattle.node_lists.proofs.KeptOutcome.{Ready}
 use Rattle.node_lists.proofs.Overlaid.{get_d_any, overlaid, mapped_at}
 use Rattle.turns.specs.declared.Task.{Task}
-use Rattle.turns.specs.declared.Place.{Place}
 use Rattle.turns.specs.Turns.{no_struct, task_under, cleared, first_place, place_at, nodes_at, sums_at}
 use Rattle.in_place.proofs.AnyOrder.{sum-values}
 use Rattle.in_place.proofs.Added.{in_bytes-zeros}

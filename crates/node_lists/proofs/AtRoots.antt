@@ -9,11 +9,9 @@ use mathlib.Core.List.{List, [], map}
 use borrow.Author.Tests.{eq-eqb, ne_eqb, lt-ltb, ltb-false}
 use lib.ListN.{length, get_or, set, length-set, length-map, get_or-map}
 use lib.Seq.{get_or-set_same, get_or-set_other}
-use lib.Dec.{eqb, ltb}
 use Rattle.places.specs.Places.{window, overlay}
 use Rattle.places.proofs.Places.{window-inside, overlay-nil}
 use Rattle.calls.proofs.Judged.{number-clear}
-use Rattle.point.specs.Node as point
 use Rattle.tree.specs.SearchRule.{start}
 use Rattle.nodes.specs.declared.Node.{Node}
 use Rattle.nodes.specs.NodeLayout.{node_of}

@@ -1,3 +1,2 @@
 // The incremental distributed point function: definitions and theorems, no code.
 #![tactic(auto)]
-

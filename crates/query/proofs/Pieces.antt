@@ -14,7 +14,7 @@ use Rattle.numbers.proofs.Endian.{big-length}
 use Rattle.places.proofs.Places.{window-inside, put_at-nil, put_at-outside, put_at-length, put_at-more, Grown, grown-room, grown-more}
 use Rattle.bits.specs.Strings.{Bits, ◌▹◌}
 use Rattle.bits.specs.Packing.{packed_length, pack, unpack}
-use Rattle.query.specs.Query.{packs, query, parts, children}
+use Rattle.query.specs.Query.{packs, query, parts}
 use Rattle.query.specs.Prefix.{part}
 use Rattle.query.specs.Written.{fitting, both_children}
 use Rattle.query.proofs.Queries.{parts-length}

@@ -1,6 +1,6 @@
 -- The turns by which a list of nodes goes one level down in its own place: upwards over the new nodes, those that are read from further up; then
 -- downwards, the others.
-use Rattle.std.specs.Prelude.{ℕ, zero, suc, ◌+◌, ◌-◌, ◌*◌, ◌/◌, ◌%◌, Bool, false, cond, List, length, get_or, set, replicate, eqb, ltb}
+use Rattle.std.specs.Prelude.{ℕ, zero, suc, ◌+◌, ◌-◌, ◌*◌, ◌/◌, ◌%◌, Bool, false, cond, List, get_or, set, replicate, eqb, ltb}
 use Rattle.std.specs.Bool.{beq}
 use Rattle.places.specs.Places.{window, put_at, overlay}
 use Rattle.numbers.specs.Numbers.{little, from_little}

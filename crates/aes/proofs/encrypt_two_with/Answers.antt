@@ -1,6 +1,5 @@
 -- `aes::encrypt_two_with` meets its contract. After j steps of the loop the key and both states are those after j rounds.
 use mathlib.Core.Path.{◌≡◌, ◌∙◌}
-use Prim.Native.Nat.{◌-◌}
 use native.Mathlib.Omega.{arith}
 use Rattle.aes.proofs.Rounds.{start, next, last}
 use borrow.Author.Rules.{rules}

@@ -1,6 +1,5 @@
 -- `aes::encrypt_with` meets its contract. After i steps of the loop the key and the state are those after i rounds.
 use mathlib.Core.Path.{◌≡◌, ◌∙◌}
-use Prim.Native.Nat.{◌-◌}
 use native.Mathlib.Omega.{arith}
 use Rattle.aes.proofs.Rounds.{start, next, last}
 use borrow.Author.Rules.{rules}

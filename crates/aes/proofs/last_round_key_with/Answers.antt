@@ -1,6 +1,5 @@
 -- `aes::last_round_key_with` meets its contract. After n steps of the loop the key is the round key of round n.
 use mathlib.Core.Path.{◌≡◌, refl, ap₂, ◌∙◌}
-use Prim.Native.Nat.{◌-◌}
 use native.Mathlib.Omega.{arith}
 use Rattle.aes.specs.Fips197.{round_key}
 use Rattle.aes.proofs.Rounds.{next-key}

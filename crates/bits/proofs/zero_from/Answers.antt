@@ -1,5 +1,4 @@
 -- `bits::zero_from` meets its contract. The loop's invariant: what is left decides. The measure is its length.
-use Prim.Native.Nat.{◌-◌}
 use native.Mathlib.Numerals.{add-one}
 use native.Mathlib.Omega.{arith}
 use mathlib.Core.Path.{refl, sym, ◌∙◌}

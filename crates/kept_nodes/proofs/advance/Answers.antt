@@ -1,5 +1,5 @@
 use mathlib.Core.Path.{ap₂}
-use Rattle.std.proofs.Common.{◌≡◌, ℕ, suc, List, [], false, length, ◌-◌, ◌<◌, ◌∙◌, ap, sym, set, get_or, arith}
+use Rattle.std.proofs.Common.{◌≡◌, suc, List, [], false, length, ◌-◌, ◌<◌, ◌∙◌, ap, set, get_or, arith}
 use Rattle.std.proofs.lemmas.List.{get_or_default}
 use Rattle.nodes.specs.declared.Node.{Node}
 use Rattle.turns.specs.declared.Place.{Place}
@@ -17,7 +17,7 @@ loop-at-init c =
       fewer = omega arith;
       place = rw none (place_none a.task a.shares.now a.last.now a.query.now a.at a.nodes.now);
       nodes = rw none (nodes-none a.task a.shares.now a.last.now a.query.now a.at a.nodes.now);
-      sums = rw none (sums_none a.task a.shares.now a.last.now a.query.now a.at a.nodes.now a.out.now)
+      sums = rw none (sums_none a.task a.shares.now a.last.now a.query.now a.at a.nodes.now a.out.now);
     }
 
 -- a turn fewer is left
@@ -53,5 +53,5 @@ loop-at-preserved c =
           rw more
           (ap₂ (λ (ns : List Node) (p : Place). set ns p.target c.turn-t.result.node) inv.nodes inv.place
           ∙ nodes-more a.task a.shares.now a.last.now a.query.now a.at a.nodes.now done c.turn-t.result.node node);
-      sums = rw more (sums-more a.task a.shares.now a.last.now a.query.now a.at a.nodes.now a.out.now done _ sums)
+      sums = rw more (sums-more a.task a.shares.now a.last.now a.query.now a.at a.nodes.now a.out.now done _ sums);
     }

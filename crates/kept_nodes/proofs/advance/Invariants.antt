@@ -11,7 +11,7 @@ invariant-loop-at l =
       fewer : l.at.left ≤ l.initial.at.left;
       place : l.at ≡ place_at l.task l.shares l.last l.query l.initial.at done;
       nodes : l.nodes ≡ nodes_at l.task l.shares l.last l.query l.initial.at l.initial.nodes done;
-      sums : l.out ≡ sums_at l.task l.shares l.last l.query l.initial.at l.initial.nodes l.initial.out done
+      sums : l.out ≡ sums_at l.task l.shares l.last l.query l.initial.at l.initial.nodes l.initial.out done;
     }
 
 abbrev pub decreases-loop-at : goal.decreases-loop-at

@@ -1,5 +1,5 @@
 use mathlib.Core.Path.{ap₂}
-use Rattle.std.proofs.Common.{◌≡◌, ℕ, suc, List, ◌-◌, ◌∙◌, ap, sym, set, arith}
+use Rattle.std.proofs.Common.{◌≡◌, suc, List, ◌-◌, ◌∙◌, ap, set, arith}
 use Rattle.nodes.specs.declared.Node.{Node}
 use Rattle.node_lists.specs.declared.Filling.{Filling}
 use Rattle.node_lists.specs.Filling.{root_node, filling_next}
@@ -14,7 +14,7 @@ loop-at-init c =
     record {
       fewer = omega arith;
       turn = rw none (filling-none a.server a.seeds.now a.at a.nodes.now);
-      nodes = rw none (filled_none a.server a.seeds.now a.at a.nodes.now)
+      nodes = rw none (filled_none a.server a.seeds.now a.at a.nodes.now);
     }
 
 -- a turn fewer is left
@@ -39,5 +39,5 @@ loop-at-preserved c =
       nodes =
           rw more
           (ap₂ (λ (ns : List Node) (p : Filling). set ns p.next c.root-t.result.node) l.invariant.nodes l.invariant.turn
-          ∙ filled_more a.server a.seeds.now a.at a.nodes.now done c.root-t.result.node node)
+          ∙ filled_more a.server a.seeds.now a.at a.nodes.now done c.root-t.result.node node);
     }

@@ -10,7 +10,7 @@ invariant-loop-at l =
     record {
       fewer : l.at.left ≤ l.initial.at.left;
       turn : l.at ≡ filling_at l.server l.seeds l.initial.at done;
-      nodes : l.nodes ≡ filled_at l.server l.seeds l.initial.at l.initial.nodes done
+      nodes : l.nodes ≡ filled_at l.server l.seeds l.initial.at l.initial.nodes done;
     }
 
 abbrev pub decreases-loop-at : goal.decreases-loop-at

@@ -1,6 +1,6 @@
 -- `keymaker::write_key` meets its contract. The loop goes from level to level; the measure is the number of levels left.
 use mathlib.Core.Path.{◌≡◌, ap, ◌∙◌}
-use Prim.Native.Nat.{ℕ, ◌-◌}
+use Prim.Native.Nat.{ℕ}
 use native.Mathlib.Omega.{arith}
 use lib.ListN.{length, length-set}
 use Rattle.places.specs.Places.{put_at}

@@ -1,4 +1,3 @@
-use Prim.Native.Nat.{◌-◌}
 use mathlib.Core.Path.{◌≡◌}
 use Rattle.parents.specs.Lookup.{is_parent, down_from}
 use Rattle.parents.proofs.down_from.Given as goal

@@ -1,9 +1,7 @@
 -- `parents::parent_missing` meets its contract. The loop's invariant: each prefix below j agrees with one of the last query. The measure is how many are left.
-use Prim.Native.Nat.{◌-◌}
 use native.Mathlib.Omega.{arith}
 use native.Mathlib.Decide.{dec_lt}
 use mathlib.Core.Path.{◌≡◌, sym, ap, ◌∙◌}
-use mathlib.Core.Bool.{true}
 use Rattle.parents.proofs.Unparented.{has, other-bits, all_have, one-lacks, found-has, missed-has}
 use Rattle.parents.proofs.parent_missing.Goals as goal
 

@@ -1,5 +1,4 @@
 -- `parents::up_from` meets its contract. The loop's invariant: the places from a on decide. The measure is how many they are.
-use Prim.Native.Nat.{◌-◌}
 use native.Mathlib.Omega.{arith}
 use mathlib.Core.Path.{◌≡◌, refl, sym, ap, ◌∙◌}
 use Rattle.parents.specs.Lookup.{agree, is_parent}

@@ -1,6 +1,6 @@
 -- `space::levels_length` meets its contract: what was added and what the levels from the next one on add is the whole, and `kept` is what can be
 -- kept of this length.
-use Prim.Native.Nat.{ℕ, ◌-◌, ◌*◌, min}
+use Prim.Native.Nat.{ℕ, ◌*◌, min}
 use native.Mathlib.Omega.{arith}
 use native.Mathlib.Nat.{min-le_right}
 use mathlib.Core.Path.{ap, ◌∙◌}

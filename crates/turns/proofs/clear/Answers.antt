@@ -1,5 +1,5 @@
 -- `turns::clear` meets its contract. The loop's invariant: the bytes passed are zero, and the others as they were. The measure is what is left.
-use Prim.Native.Nat.{ℕ, ◌-◌}
+use Prim.Native.Nat.{ℕ}
 use native.Mathlib.Omega.{arith}
 use mathlib.Core.Path.{◌≡◌, refl}
 use borrow.Author.Fill.{fill_none, fill_more}

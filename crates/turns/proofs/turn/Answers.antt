@@ -21,8 +21,7 @@ returns c =
     let a = c.args in
     let due = not-false a.at.due c.if-not-at.false in
     let share = c.public_share_at-share in
-    let child = c.prefix_at in
-    (
+    let child = c.prefix_at in (
       turned-node a.task a.shares.now a.query.now a.at a.m due share.result.now share.ensures child.result.now
           child.ensures c.bit_at-x.result c.bit_at-x.ensures c.step_down-below.result.node c.step_down-below.ensures.node_value,
       c.after-next.ensures,

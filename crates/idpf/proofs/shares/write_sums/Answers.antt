@@ -1,6 +1,6 @@
 -- `idpf::shares::write_sums` meets its contract. The loop's invariant: the sums at the prefixes passed are written, and the rest is as it was. The last
 -- prefix of an odd count is left to the end.
-use Prim.Native.Nat.{◌+◌, ◌*◌, ◌-◌}
+use Prim.Native.Nat.{◌+◌, ◌*◌}
 use mathlib.Core.Path.{ap, ◌∙◌}
 use lib.ListN.{length}
 use native.Mathlib.Omega.{arith}

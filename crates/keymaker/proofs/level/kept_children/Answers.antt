@@ -23,7 +23,10 @@ returns c =
     ∙ seed-made S a.a n0 n1 l0 r0 l1 r1 b0.ensures.0 b0.ensures.1 b1.ensures.0 b1.ensures.1 in
     let left = left-made S a.a n0 n1 l0 r0 l1 r1 b0.ensures.0 b0.ensures.1 b1.ensures.0 b1.ensures.1 in
     let right = right-made S a.a n0 n1 l0 r0 l1 r1 b0.ensures.0 b0.ensures.1 b1.ensures.0 b1.ensures.1 in
-    let kept = kept-made S a.a n0 n1 l0 r0 l1 r1 b0.ensures.0 b0.ensures.1 b1.ensures.0 b1.ensures.1 in record { words = (seed, left, right); kept = (
+    let kept = kept-made S a.a n0 n1 l0 r0 l1 r1 b0.ensures.0 b0.ensures.1 b1.ensures.0 b1.ensures.1 in record {
+      words = (seed, left, right);
+      kept = (
         c.keep-kept0.ensures ∙ kept n0 l0 r0 _ _ _ seed left right b0.ensures.0 b0.ensures.1,
         c.keep-kept1.ensures ∙ kept n1 l1 r1 _ _ _ seed left right b1.ensures.0 b1.ensures.1,
-      ) }
+      );
+    }

@@ -27,6 +27,9 @@ slice_bounds-shares_at-end c = omega (arith, room (goal.at.slice_bounds-shares_a
 pub returns : goal.returns
 returns c =
     let a = c.args in
-    record { first_value = lent-part a.n a.seeds.now a.shares.now a.i c.requires a.e a.b (bit_of (bits_of a.first.now)) a.k
-          c.public_share_length-length.ensures c.read16-seed.ensures c.shares_at.ensures.first_value; second_value = lent-part a.n a.seeds.now a.shares.now a.i c.requires a.e a.b (bit_of (bits_of a.second.now)) a.k
-          c.public_share_length-length.ensures c.read16-seed.ensures c.shares_at.ensures.second_value }
+    record {
+      first_value = lent-part a.n a.seeds.now a.shares.now a.i c.requires a.e a.b (bit_of (bits_of a.first.now)) a.k
+          c.public_share_length-length.ensures c.read16-seed.ensures c.shares_at.ensures.first_value;
+      second_value = lent-part a.n a.seeds.now a.shares.now a.i c.requires a.e a.b (bit_of (bits_of a.second.now)) a.k
+          c.public_share_length-length.ensures c.read16-seed.ensures c.shares_at.ensures.second_value;
+    }

@@ -26,8 +26,7 @@ with_report-sums-requires c = omega (arith, c.report_count-left.ensures)
 
 pub loop-left-preserved : goal.loop-left-preserved
 loop-left-preserved c =
-    let test = counts c.args.marks.now in
-    (
+    let test = counts c.args.marks.now in (
       sum_more test (part (goal.at.loop-left-preserved c).Start c.args.first.now) c.loop-left.i c.loop-left.invariant.0 c.with_report-sums.ensures.first_value,
       sum_more test (part (goal.at.loop-left-preserved c).Start c.args.second.now) c.loop-left.i c.loop-left.invariant.1 c.with_report-sums.ensures.second_value,
       omega arith,

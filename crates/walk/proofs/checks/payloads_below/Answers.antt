@@ -1,4 +1,4 @@
-use Rattle.std.proofs.Common.{◌≡◌, ℕ, Bool, List, ◌&&◌, ltb, ◌∙◌, ap, sym, arith}
+use Rattle.std.proofs.Common.{◌≡◌, ℕ, Bool, ◌&&◌, ltb, ◌∙◌, ap, arith}
 use Rattle.group.specs.Modular.{p}
 use Rattle.nodes.specs.NodeLayout.{correction_of}
 use Rattle.walk.proofs.PublicTests.{below, below-none, below_more, below-all}
@@ -11,7 +11,7 @@ loop-reader-init c =
       share = cc;
       levels = made.1;
       next = omega (arith, made.2);
-      tested = rw made.2 (below-none c.args.n c.args.share.now)
+      tested = rw made.2 (below-none c.args.n c.args.share.now);
     }
 
 pub loop-reader-preserved : goal.loop-reader-preserved
@@ -26,7 +26,7 @@ loop-reader-preserved c =
       tested =
           rw moved.2
           (below_more c.args.n l.reader.next c.args.share.now (correction_of word) _ (rw (l.invariant.levels, l.invariant.share) at c.correction-word.ensures)
-          (c.still_below-below.ensures ∙ ap (λ (b : Bool). b && ltb word.payload p) l.invariant.tested))
+          (c.still_below-below.ensures ∙ ap (λ (b : Bool). b && ltb word.payload p) l.invariant.tested));
     }
 
 pub returns : goal.returns

@@ -9,7 +9,7 @@ invariant-loop-reader l = record {
   share : l.reader.share.now ≡ l.share;
   levels : l.reader.levels ≡ l.n;
   next : l.reader.next ≤ l.n;
-  tested : l.below ≡ below l.n l.share l.reader.next
+  tested : l.below ≡ below l.n l.share l.reader.next;
 }
 
 abbrev pub decreases-loop-reader : goal.decreases-loop-reader

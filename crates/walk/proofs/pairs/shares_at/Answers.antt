@@ -17,6 +17,9 @@ second_node-o-requires c = c.node_at-m.ensures
 pub returns : goal.returns
 returns c =
     let a = c.args in
-    let words = read_correction a.n a.bytes.now in record { first_value = share-level a.e words a.seed a.b (bit_of (bits_of a.first.now)) a.k (omega arith) c.read_level-level.ensures.0 c.bit_at-x.ensures
-          c.node_at-m.ensures c.share_below.ensures; second_value = share-level a.e words a.seed a.b (bit_of (bits_of a.second.now)) a.k (omega arith) c.read_level-level.ensures.0 c.bit_at-y.ensures
-          c.second_node-o.ensures c.share_below-2.ensures }
+    let words = read_correction a.n a.bytes.now in record {
+      first_value = share-level a.e words a.seed a.b (bit_of (bits_of a.first.now)) a.k (omega arith) c.read_level-level.ensures.0 c.bit_at-x.ensures
+          c.node_at-m.ensures c.share_below.ensures;
+      second_value = share-level a.e words a.seed a.b (bit_of (bits_of a.second.now)) a.k (omega arith) c.read_level-level.ensures.0 c.bit_at-y.ensures
+          c.second_node-o.ensures c.share_below-2.ensures;
+    }
