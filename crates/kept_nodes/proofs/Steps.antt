@@ -1,6 +1,6 @@
 -- The folds over the turns, one turn at a time.
 use mathlib.Core.Path.{◌≡◌, refl, ap}
-use Prim.Native.Nat.{ℕ, suc, ◌-◌}
+use Prim.Native.Nat.{ℕ, suc}
 use mathlib.Core.Bool.{Bool}
 use mathlib.Core.List.{List}
 use lib.ListN.{get_or, set}
@@ -56,7 +56,3 @@ module _ (b : Bool) (seeds : List ℕ) (p : Filling) (l : List Node) where
   pub filling-none : p ≡ filling_at b seeds p 0
   unfolding filling_at
   filling-none = refl
-
-pub filling-left : (p : Filling) → (filling_next p).left ≡ p.left - 1
-unfolding filling_next
-filling-left p = refl

@@ -2,8 +2,9 @@ use mathlib.Core.Path.{ap₂}
 use Rattle.std.proofs.Common.{◌≡◌, suc, List, ◌-◌, ◌∙◌, ap, set, arith}
 use Rattle.nodes.specs.declared.Node.{Node}
 use Rattle.node_lists.specs.declared.Filling.{Filling}
-use Rattle.node_lists.specs.Filling.{root_node, filling_next}
-use Rattle.kept_nodes.proofs.Steps.{filled_more, filled_none, filling-more, filling-none, filling-left}
+use Rattle.node_lists.specs.Filling.{root_node, filling_at, filling_next}
+use Rattle.node_lists.proofs.AtRoots.{filling-left}
+use Rattle.kept_nodes.proofs.Steps.{filled_more, filled_none, filling-more, filling-none}
 use Rattle.kept_nodes.proofs.fill.Goals as goal
 use Rattle.kept_nodes.proofs.fill.Goals.{After-at-1}
 
@@ -17,9 +18,17 @@ loop-at-init c =
       nodes = rw none (filled_none a.server a.seeds.now a.at a.nodes.now);
     }
 
--- a turn fewer is left
+-- the next turn, and that it is one fewer
+next : (c : After-at-1) → c.root-t.result.rest ≡ filling_at c.args.server c.args.seeds.now c.args.at (suc (c.args.at.left - c.loop-at.at.left))
+next c =
+    let a = c.args in
+    filling-more a.server a.seeds.now a.at a.nodes.now (a.at.left - c.loop-at.at.left) _ (c.root-t.ensures.1 ∙ ap filling_next c.loop-at.invariant.turn)
+
 fewer : (c : After-at-1) → c.root-t.result.rest.left ≡ c.loop-at.at.left - 1
-fewer c = ap (λ (p : Filling). p.left) c.root-t.ensures.1 ∙ filling-left c.loop-at.at
+fewer c =
+    let a = c.args in
+    let done = a.at.left - c.loop-at.at.left in
+    omega (arith, ap (λ (p : Filling). p.left) (next c), filling-left a.server a.seeds.now a.at (suc done), c.loop-at.invariant.fewer, c.loop-at-test.true)
 
 pub loop-at-smaller : goal.loop-at-smaller
 loop-at-smaller c = omega (arith, fewer c, c.loop-at-test.true)
@@ -35,7 +44,7 @@ loop-at-preserved c =
     let node = told.0 ∙ ap (λ (p : Filling). root_node a.server a.seeds.now p) l.invariant.turn in
     record {
       fewer = omega (arith, l.invariant.fewer);
-      turn = rw more (filling-more a.server a.seeds.now a.at a.nodes.now done _ (told.1 ∙ ap filling_next l.invariant.turn));
+      turn = rw more (next c);
       nodes =
           rw more
           (ap₂ (λ (ns : List Node) (p : Filling). set ns p.next c.root-t.result.node) l.invariant.nodes l.invariant.turn
