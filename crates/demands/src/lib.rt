@@ -1,3 +1,2 @@
 // The user's three demands as three types, each with its proof. It has no code.
 #![tactic(auto)]
-

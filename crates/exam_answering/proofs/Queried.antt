@@ -10,7 +10,6 @@ use mathlib.Core.List.Memᴰ.{head as here}
 use mathlib.Core.List.Memᴰ.{tail as there}
 use borrow.Author.Tests.{leb-true, le-leb}
 use lib.ListN.{length, length-append}
-use lib.Dec.{leb}
 use Rattle.places.specs.Lists.{◌∈◌, All, select}
 use Rattle.bits.specs.Strings.{Bits, ◌▹◌, is_prefix, count}
 use Rattle.kept.specs.Kept.{reaches}

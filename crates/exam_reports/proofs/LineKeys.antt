@@ -6,7 +6,7 @@ use mathlib.Core.Bool.{true}
 use mathlib.Core.List.{List}
 use lib.ListN.{length, take, drop}
 use lib.IntN.{pos}
-use Rattle.bits.specs.Packing.{packed_length, pack_in, pack}
+use Rattle.bits.specs.Packing.{packed_length, pack_in}
 use Rattle.calls.specs.Outcome.{Outcome}
 use Rattle.expander.specs.Expander.{is_expander}
 use Rattle.point.specs.PublicShare.{public_share_length}

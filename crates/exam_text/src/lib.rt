@@ -1,3 +1,2 @@
 // Exam sheets and their texts: definitions and theorems. It has no code.
 #![tactic(auto)]
-

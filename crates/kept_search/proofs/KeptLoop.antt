@@ -30,7 +30,7 @@ use Rattle.node_lists.proofs.KeptOutcome.{nodes-as-many}
 use Rattle.node_lists.proofs.RootsOutcome.{whole-roots, roots-as-many, roots-reached}
 use Rattle.node_lists.proofs.Chain.{query-last}
 use Rattle.node_lists.proofs.Following.{kept-follows, next-has-parents}
-use Rattle.honest.specs.Loop.{Passes, first_query, Played, round, follow, share_of, share_for, totals_for, played, kept_at}
+use Rattle.honest.specs.Loop.{Passes, first_query, round, follow, share_of, share_for, totals_for, played, kept_at}
 use Rattle.kept_search.specs.KeptLoop.{Keeping, begun, kept_call, kept_on, round_with, kept_played}
 use Rattle.honest.proofs.Round.{passes, read, round-share}
 use Rattle.honest.proofs.Playing.{written_is, kind-is}

@@ -7,7 +7,6 @@ use native.Mathlib.Decide.{dec_lt}
 use mathlib.Core.Path.{◌≡◌, sym, ap, ◌∙◌}
 use mathlib.Core.List.{List}
 use lib.ListN.{length, length-append}
-use Rattle.places.specs.Places.{put_at}
 use Rattle.places.proofs.Places.{put_at-nil, put_at-length, put_at-more}
 use Rattle.point.specs.PublicShare.{joined}
 use Rattle.fields.proofs.FieldChain.{Wrote}

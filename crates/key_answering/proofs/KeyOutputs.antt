@@ -6,13 +6,13 @@ use mathlib.Core.Path.{◌≡◌, refl, sym, ap, ◌∙◌, subst}
 use mathlib.Core.Bool.{Bool, true, false, not}
 use mathlib.Core.List.{List, [], ◌∷◌, ◌++◌}
 use mathlib.Core.Logic.{◌≢◌, ◌⊎◌, inl, inr}
-use mathlib.Core.Option.{none, some}
+use mathlib.Core.Option.{some}
 use borrow.Author.Tests.{le-ltb, ne_eqb}
 use lib.ListN.{length, take, length-append}
 use lib.Seq.{take_all, length-take-le}
 use Rattle.calls.specs.Bounds.{most_bits, Outside, outside, length_cause, expander_cause}
 use Rattle.calls.specs.Causes.{Cause, cause, Due}
-use Rattle.calls.specs.Outcome.{Outcome, accepted, judged}
+use Rattle.calls.specs.Outcome.{accepted, judged}
 use Rattle.calls.proofs.Decisions.{beyond, beyond-test}
 use Rattle.calls.proofs.Judged as judging
 use Rattle.expander.specs.Expander.{is_expander, choice_of}

@@ -15,7 +15,6 @@ use Rattle.bits.specs.Strings.{Bits, ◌▹◌}
 use Rattle.bits.proofs.Append.{append-length}
 use Rattle.group.specs.Modular.{field}
 use Rattle.expander.specs.declared.Expander.{Expander}
-use Rattle.point.specs.Correction.{Correction}
 use Rattle.point.specs.Evaluation.{bit_of}
 use Rattle.point.specs.PublicShare.{joined, control_bytes, level_start, read_correction}
 use Rattle.exam_text.specs.Characters.{space, newline, glyph, binary, hexadecimal, decimal_in, decimal}

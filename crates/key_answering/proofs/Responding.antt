@@ -4,7 +4,6 @@ use native.Mathlib.Omega.{arith}
 use mathlib.Core.Path.{◌≡◌, ap}
 use mathlib.Core.Bool.{true, false}
 use mathlib.Core.List.{List}
-use mathlib.Core.Option.{none}
 use borrow.Author.Tests.{lt-ltb}
 use Rattle.calls.specs.Bounds.{most_bits, outside}
 use Rattle.calls.proofs.Decisions.{in_bounds}
@@ -13,7 +12,6 @@ use Rattle.expander.specs.declared.Expander.{Expander}
 use Rattle.expander.specs.declared.Choice.{Choice}
 use Rattle.expander.specs.declared.Choice.TheVariants.{Known, Unknown}
 use Rattle.expander.proofs.Chosen.{known, unknown}
-use Rattle.exam_text.specs.Sheet.{Line}
 use Rattle.exam_text.specs.KeyLine.{is_key_line, key_line_of, read_key_line}
 use Rattle.exam_lines.specs.Lines.{written_in, refused_text, refused_outcome}
 use Rattle.key_answering.specs.KeyAnswer.{line_page, key_line_outcome, key_output, respond_outcome}

@@ -45,7 +45,10 @@ read_seed-seed1-requires c =
 
 pub returns : goal.returns
 returns c =
-    let a = c.args in record { string = c.read_string-string.ensures ∙ ap (pack_in 4) (string-stands a.n a.at a.text.now (stands (goal.at.returns c).Else-not-has_line)); seeds = (
+    let a = c.args in record {
+      string = c.read_string-string.ensures ∙ ap (pack_in 4) (string-stands a.n a.at a.text.now (stands (goal.at.returns c).Else-not-has_line));
+      seeds = (
         c.read_seed-seed0.ensures ∙ seed0-stands a.n a.at a.text.now (stands (goal.at.returns c).Else-not-has_line),
         c.read_seed-seed1.ensures ∙ seed1-stands a.n a.at a.text.now (stands (goal.at.returns c).Else-not-has_line),
-      ) }
+      );
+    }

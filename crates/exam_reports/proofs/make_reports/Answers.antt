@@ -1,6 +1,6 @@
 -- `exam_reports::make_reports` meets its contract: each test is one of those that the reports are made by, and what is then written are they.
 use mathlib.Core.Path.{◌≡◌, sym, ap, ◌∙◌}
-use mathlib.Core.Bool.{true, false, ◌&&◌}
+use mathlib.Core.Bool.{true, ◌&&◌}
 use mathlib.Core.List.{List}
 use Prim.Native.Nat.{ℕ, ◌*◌, ◌≤◌}
 use native.Mathlib.Omega.{arith}
@@ -79,12 +79,15 @@ returns-then-not-fit c =
 
 pub write_reports-requires : goal.write_reports-requires
 write_reports-requires c =
-    let s = says (goal.at.write_reports-requires c).Else-not-sheet in record { le_n = (
+    let s = says (goal.at.write_reports-requires c).Else-not-sheet in record {
+      le_n = (
         c.if-n-lt1.false,
         omega (arith, s.n-read, (within (goal.at.write_reports-requires c).Else-not-sheet).n-most),
         sym c.is_expander.ensures ∙ not-false _ c.if-not-is_expander.false-raw,
         placed.sheet-laid (text (goal.at.write_reports-requires c).Else-not-sheet) _ _ c.read_sheet-sheet.result.lines s.n-read s.count-read s.lines-placed (read (goal.at.write_reports-requires c).Else-not-sheet),
-      ); count_in_bounds = rooms (goal.at.write_reports-requires c).Else-not-fit }
+      );
+      count_in_bounds = rooms (goal.at.write_reports-requires c).Else-not-fit;
+    }
 
 pub returns : goal.returns
 returns c =

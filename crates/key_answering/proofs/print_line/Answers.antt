@@ -9,7 +9,6 @@ use Rattle.exam_text.specs.Sheet.{Line}
 use Rattle.exam_text.specs.Reader.{line_at}
 use Rattle.exam_text.proofs.Values.{four-length}
 use Rattle.exam_text.proofs.Placed.{Sound, stands-sound}
-use Rattle.fields.proofs.FieldChain.{Wrote}
 use Rattle.key_answering.specs.KeyPage.{page}
 use Rattle.key_answering.specs.KeyAnswer.{line_page}
 use Rattle.key_answering.proofs.LineKey.{packed-length, share-length, page-read, line-most}

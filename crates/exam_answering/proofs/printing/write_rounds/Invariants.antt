@@ -1,4 +1,4 @@
-use Prim.Native.Nat.{◌-◌, ◌≤◌}
+use Prim.Native.Nat.{◌≤◌}
 use lib.ListN.{length, drop}
 use Rattle.places.proofs.Places.{Grown}
 use Rattle.exam_text.proofs.Records.{Rounds}

@@ -61,14 +61,13 @@ pub slice_bounds-print-end-4 : goal.slice_bounds-print-end-4
 slice_bounds-print-end-4 c = sym (list-size (goal.at.slice_bounds-print-end-4 c).After-search-found)
 
 pub print-requires : goal.print-requires
-print-requires c =
-    (
-      c.requires.le_n.0,
-      omega (arith, c.requires.le_n.1),
-      rw (record_is (goal.at.print-requires c).After-search-found) (record-headed (asked (goal.at.print-requires c).After-search-found) c.requires.le_n.2),
-      rw (record_is (goal.at.print-requires c).After-search-found) c.requires.rounds,
-      rw (record_is (goal.at.print-requires c).After-search-found, list-is (goal.at.print-requires c).After-search-found) c.requires.list_in_bounds,
-    )
+print-requires c = (
+  c.requires.le_n.0,
+  omega (arith, c.requires.le_n.1),
+  rw (record_is (goal.at.print-requires c).After-search-found) (record-headed (asked (goal.at.print-requires c).After-search-found) c.requires.le_n.2),
+  rw (record_is (goal.at.print-requires c).After-search-found) c.requires.rounds,
+  rw (record_is (goal.at.print-requires c).After-search-found, list-is (goal.at.print-requires c).After-search-found) c.requires.list_in_bounds,
+)
 
 pub returns : goal.returns
 returns c =

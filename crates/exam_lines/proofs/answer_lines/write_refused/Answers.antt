@@ -13,5 +13,5 @@ returns c =
     let w = c.write_word-here in
     let n = c.write_number in
     (two_fields a.out.now 0 refused_word space (decimal a.number) newline (omega (arith, c.requires)) _ _ (w.ensures.place, w.ensures.space) _ _
-        (n.ensures.place, n.ensures.space)).1
+    (n.ensures.place, n.ensures.space)).1
     ∙ put_at-overlay a.out.now (refused_text a.number) c.requires

@@ -1,6 +1,6 @@
 -- `exam_reading::fields::digits_end` meets its contract. The loop's invariant: the digits end where those that are left do. The measure is what is left of
 -- the text.
-use Prim.Native.Nat.{suc, ◌-◌}
+use Prim.Native.Nat.{suc}
 use native.Mathlib.Numerals.{add-one}
 use native.Mathlib.Omega.{arith}
 use mathlib.Core.Path.{◌≡◌, refl, sym, ap, ◌∙◌}

@@ -68,5 +68,5 @@ returns t c =
     let w = c.write_decimal-last in
     let p = c.put-2 in
     let written = both a.out.now a.at a.x (search rules) c.if-x-lt-BASE.false c.requires w.new.out w.result (w.ensures.value, w.ensures.out_after) p.new.out p.result
-        (p.ensures.value, p.ensures.out_after ∙ ap (λ (g : ℕ). put_at w.new.out w.result (g ∷ [])) c.digit-2.ensures) in
+    (p.ensures.value, p.ensures.out_after ∙ ap (λ (g : ℕ). put_at w.new.out w.result (g ∷ [])) c.digit-2.ensures) in
     record { value = written.0; out_after = written.1 }

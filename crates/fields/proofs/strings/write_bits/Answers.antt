@@ -1,5 +1,5 @@
 -- `fields::strings::write_bits` meets its contract. The loop's invariant: the bits passed are written. The measure is how many are left.
-use Prim.Native.Nat.{ℕ, ◌+◌, ◌-◌}
+use Prim.Native.Nat.{ℕ, ◌+◌}
 use native.Mathlib.Omega.{arith}
 use mathlib.Core.Path.{◌≡◌, ap, ◌∙◌}
 use mathlib.Core.Bool.{false}

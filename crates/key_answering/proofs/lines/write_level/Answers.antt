@@ -1,7 +1,7 @@
 -- `key_answering::lines::write_level` meets its contract.
 use Prim.Native.Nat.{ℕ, suc}
 use native.Mathlib.Numerals.{add-one}
-use mathlib.Core.Path.{◌≡◌, sym, ap, ◌∙◌}
+use mathlib.Core.Path.{◌≡◌, ap, ◌∙◌}
 use mathlib.Core.List.{◌++◌}
 use Rattle.places.specs.Lists.{digit}
 use Rattle.places.proofs.Places.{Grown, grown-start}

@@ -1,5 +1,5 @@
 -- `key_answering::page::write_path` meets its contract. The loop's invariant: the lines of the bits passed are written. The measure is how many are left.
-use Prim.Native.Nat.{ℕ, ◌-◌}
+use Prim.Native.Nat.{ℕ}
 use native.Mathlib.Omega.{arith}
 use mathlib.Core.Path.{◌≡◌, ap, ◌∙◌}
 use mathlib.Core.List.{List}

@@ -40,5 +40,5 @@ returns c =
     let a = c.args in
     let s = c.write_shares in
     let both : Wrote a.out.now a.at (shares_line_at a.e a.n (unpack a.n a.string.now) a.seed0 a.seed1 a.share.now a.word.now (take a.k (unpack a.n a.string.now) ▹ a.bit)) s.new.out s.result =
-        rw (← line (goal.at.returns c).After-shares_at-one) (s.ensures.value, s.ensures.out_after) in
+    rw (← line (goal.at.returns c).After-shares_at-one) (s.ensures.value, s.ensures.out_after) in
     record { value = both.0; out_after = both.1 }

@@ -1,4 +1,4 @@
-use Prim.Native.Nat.{◌+◌, ◌-◌, ◌*◌, ◌≤◌}
+use Prim.Native.Nat.{◌+◌, ◌*◌, ◌≤◌}
 use Rattle.places.proofs.Places.{Grown}
 use Rattle.query.specs.Query.{packs, children}
 use Rattle.kept.specs.Kept.{reaches_by}

@@ -1,9 +1,8 @@
-use Prim.Native.Nat.{◌+◌, ◌-◌, ◌*◌, ◌≤◌}
+use Prim.Native.Nat.{◌+◌, ◌*◌, ◌≤◌}
 use lib.ListN.{length, drop}
 use Rattle.bits.specs.Packing.{packed_length}
 use Rattle.places.proofs.Places.{Grown}
 use Rattle.query.specs.Query.{packs, parts}
-use Rattle.query.specs.Prefix as prefix
 use Rattle.kept.specs.Kept.{reaches_by}
 use Rattle.tree.proofs.Levels.{reaching_at, Packed}
 use Rattle.levels.proofs.heavy.write_list.Given as goal

@@ -1,5 +1,5 @@
 -- `levels::whole::clear` meets its contract. The loop's invariant: the bytes passed are zero, and the others as they were. The measure is what is left.
-use Prim.Native.Nat.{ℕ, ◌-◌, ◌≤◌}
+use Prim.Native.Nat.{ℕ, ◌≤◌}
 use native.Mathlib.Omega.{arith}
 use mathlib.Core.Path.{◌≡◌, refl, ap, ◌∙◌}
 use mathlib.Core.List.{append-nil}

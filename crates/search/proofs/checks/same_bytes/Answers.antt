@@ -1,5 +1,4 @@
 -- `search::checks::same_bytes` meets its contract. The loop's invariant: what is left decides. The measure is what is left.
-use Prim.Native.Nat.{◌-◌}
 use native.Mathlib.Omega.{arith}
 use mathlib.Core.Path.{refl, sym, ◌∙◌}
 use Rattle.search.proofs.Judging.{other_length, same_here, other-here, same_end}
