@@ -6,6 +6,7 @@ ghost use Rattle.gf256.specs.Field.{◌·◌};
 
 // Twice a byte, XTIMES of section 4.2, in the standard's two cases: shifted to the left by one place where the top bit is clear, and with {1b}
 // added besides where it is set.
+#[tactic(auto, using(crate::proofs::Products::doubled_below, crate::proofs::Products::doubled_above))]
 pub fn xtimes(x: u8) -> u8
     ensures { result ≡ 2 · x }
 {
