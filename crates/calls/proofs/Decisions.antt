@@ -58,9 +58,6 @@ module _ (most x : ℕ) where
   pub below-bounds : x < 1 → outside most x ≡ true
   below-bounds h = rw (lt-ltb x 1 h)
 
-  pub outside_above : 1 ≤ x → ltb most x ≡ outside most x
-  outside_above h = rw (le-ltb x 1 h)
-
   pub above-bounds : 1 ≤ x → most < x → outside most x ≡ true
   above-bounds h k = rw (le-ltb x 1 h, lt-ltb most x k)
 
