@@ -3,6 +3,7 @@ use native.Mathlib.Omega.{arith}
 use mathlib.Core.Path.{◌≡◌, sym, ◌∙◌}
 use mathlib.Core.Bool.{true, false, not, ◌||◌}
 use borrow.Author.Tests.{not-true, not-false, lt-ltb, le-ltb}
+use borrow.Author.Rules.{rules}
 use lib.ListN.{length}
 use lib.Dec.{eqb}
 use Rattle.bits.specs.Packing.{packed_length, spare_zero}
@@ -43,7 +44,9 @@ returns-then-wrong c =
 pub returns-then-not-clear : goal.returns-then-not-clear
 returns-then-not-clear c =
     let h = sym c.spare_zero-clear.ensures ∙ not-true _ c.if-not-clear.true-raw in
-    rw (length-right (goal.at.returns-then-not-clear c).Else-length_outside, expander-right (goal.at.returns-then-not-clear c).Else-not-is_expander, lengths-right (goal.at.returns-then-not-clear c).Else-wrong, h)
+    let right : c.wrong_lengths-wrong.result ≡ false = search rules in
+    let lengths = sym c.wrong_lengths-wrong.ensures ∙ right in
+    rw (length-right (goal.at.returns-then-not-clear c).Else-length_outside, expander-right (goal.at.returns-then-not-clear c).Else-not-is_expander, lengths, h)
 
 pub returns-then-room-public_share_length : goal.returns-then-room-public_share_length
 returns-then-room-public_share_length c =
