@@ -4,6 +4,7 @@ use native.Mathlib.Omega.{arith}
 use mathlib.Core.Path.{◌≡◌, sym, ◌∙◌}
 use mathlib.Core.Bool.{true, false}
 use borrow.Author.Tests.{not-true, not-false}
+use borrow.Author.Rules.{rules}
 use lib.ListN.{length}
 use lib.Dec.{ltb}
 use Rattle.calls.specs.Bounds.{most_bits, most_reports, outside}
@@ -73,7 +74,8 @@ returns-then-not-payloads c =
 pub returns-then-not-spares : goal.returns-then-not-spares
 returns-then-not-spares c =
     let a = c.args in
-    cause-7 a.n a.expander a.seeds.now a.shares.now a.query.now a.room (bounds (goal.at.returns-then-not-spares c).Else-length_outside) (known (goal.at.returns-then-not-spares c).Else-not-is_expander) (lengths (goal.at.returns-then-not-spares c).Else-wrong_lengths) (few (goal.at.returns-then-not-spares c).Else-too_many_reports) (payloads (goal.at.returns-then-not-spares c).Else-not-payloads)
+    let below : c.all_payloads_below-payloads.result ≡ true = search rules in
+    cause-7 a.n a.expander a.seeds.now a.shares.now a.query.now a.room (bounds (goal.at.returns-then-not-spares c).Else-length_outside) (known (goal.at.returns-then-not-spares c).Else-not-is_expander) (lengths (goal.at.returns-then-not-spares c).Else-wrong_lengths) (few (goal.at.returns-then-not-spares c).Else-too_many_reports) (not-true _ (sym c.all_payloads_below-payloads.ensures ∙ below))
     (not-false _ (sym c.all_spare_bits_zero-spares.ensures ∙ not-true _ c.if-not-spares.true-raw))
 
 pub returns-then-not-is_query : goal.returns-then-not-is_query
