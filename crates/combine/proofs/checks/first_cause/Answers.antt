@@ -2,6 +2,7 @@
 use mathlib.Core.Path.{◌≡◌, sym, ◌∙◌}
 use mathlib.Core.Bool.{true, false, ◌&&◌}
 use borrow.Author.Tests.{not-true, not-false}
+use borrow.Author.Rules.{rules}
 use Rattle.calls.specs.Bounds.{most_bits, threshold_most, outside}
 use Rattle.shares.specs.ShareNumbers.{numbers, all_below}
 use Rattle.combine.specs.Combine.{wrong_shares}
@@ -48,7 +49,8 @@ returns-then-not-below c =
 pub returns-then-not-a_query : goal.returns-then-not-a_query
 returns-then-not-a_query c =
     let a = c.args in
-    cause-9 a.n a.weighted a.t a.query.now a.share0.now a.share1.now (bounds (goal.at.returns-then-not-a_query c).Else-length_outside) (threshold (goal.at.returns-then-not-a_query c).Else-threshold_outside) (lengths (goal.at.returns-then-not-a_query c).Else-wrong_shares) (below (goal.at.returns-then-not-a_query c).Else-not-below)
+    let fit : c.both_below-below.result ≡ true = search rules in
+    cause-9 a.n a.weighted a.t a.query.now a.share0.now a.share1.now (bounds (goal.at.returns-then-not-a_query c).Else-length_outside) (threshold (goal.at.returns-then-not-a_query c).Else-threshold_outside) (lengths (goal.at.returns-then-not-a_query c).Else-wrong_shares) (sym c.both_below-below.ensures ∙ fit)
     (sym c.is_query-a_query.ensures ∙ not-true _ c.if-not-a_query.true-raw)
 
 pub returns : goal.returns
