@@ -1,7 +1,7 @@
 // Answers each exam text of the folder `data` that an argument names: its name, the number, and the answer.
 #![tactic(auto)]
 
-use std::io::{BufWriter, Write};
+use std::io::Write;
 use std::{env, fs, io};
 use streams::read_text;
 
@@ -29,7 +29,7 @@ fn answer_file<W: Write>(rt: &HostRuntime, path: &str, printed: &mut W) -> io::R
 }
 
 fn main(rt: HostRuntime) -> io::Result<()> {
-    let mut printed = BufWriter::new(rt.alloc(), rt.stdout())?;
+    let mut printed = rt.stdout();
     for path in env::args(&rt)?.skip(1) {
         answer_file(&rt, path.as_str(), &mut printed)?;
     }

@@ -7,7 +7,7 @@ mod searches;
 
 use hexadecimal::Hexadecimal;
 use std::io;
-use std::io::{BufWriter, Write};
+use std::io::Write;
 
 // A label and 16 bytes in hexadecimal, on a line.
 fn show<W: Write>(printed: &mut W, label: &str, block: [u8; 16]) -> io::Result<()> {
@@ -121,7 +121,7 @@ fn print_all<W: Write>(printed: &mut W) -> io::Result<()> {
 }
 
 fn main(rt: HostRuntime) -> io::Result<()> {
-    let mut printed = BufWriter::new(rt.alloc(), rt.stdout())?;
+    let mut printed = rt.stdout();
     print_all(&mut printed)?;
     printed.flush()
 }

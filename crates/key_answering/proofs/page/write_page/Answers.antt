@@ -14,7 +14,7 @@ use Rattle.fields.proofs.FieldChain.{Wrote, rest-room, rest-written}
 use Rattle.key_answering.specs.KeyPage.{control_line, level_line, path_lines, page, page_space}
 use Rattle.key_answering.proofs.Lengths.{page-most}
 use Rattle.key_answering.proofs.page.write_page.Goals as goal
-use Rattle.key_answering.proofs.page.write_page.Goals.{After-level_start-control, After-write_control-levels, After-write_levels-path}
+use Rattle.key_answering.proofs.page.write_page.Goals.{After-level_start-control, After-write_control-levels}
 
 -- ---- the parts of the page
 module _ (e : Expander) (n : ℕ) (string seed0 seed1 share : List ℕ) where
