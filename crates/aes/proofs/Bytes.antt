@@ -49,21 +49,21 @@ tabulated (suc n) f h = cons (h 0) (tabulated n (λ i. f (suc i)) (λ i. h (suc 
 sums : (n : ℕ) {v w : List ℕ} → Bytes v → Bytes w → Bytes (tabulate n (λ i. v ‼ i ⊕ w ‼ i))
 sums n {v} {w} a b = tabulated n (λ i. v ‼ i ⊕ w ‼ i) (λ i. xor_lt 8 (v ‼ i) (w ‼ i) (at a i) (at b i))
 
-affine_bits-lt : (x n : ℕ) → affine_bits x n < 2 ^ n
+affine_bits_lt : (x n : ℕ) → affine_bits x n < 2 ^ n
 unfolding affine_bits affine_bit
-affine_bits-lt x zero = lit< tt
-affine_bits-lt x (suc n) =
+affine_bits_lt x zero = lit< tt
+affine_bits_lt x (suc n) =
     let b : affine_bit x n < 2 = mod-lt _ (lit< tt) in
     let m : affine_bit x n * 2 ^ n ≤ 1 * 2 ^ n = mul-le-mul_right (2 ^ n) (le_of_suc-le-suc b) in
-    omega (arith, affine_bits-lt x n, pow-suc 2 n, m)
+    omega (arith, affine_bits_lt x n, pow-suc 2 n, m)
 
-s_box-lt : (x : ℕ) → s_box x < 256
+s_box_lt : (x : ℕ) → s_box x < 256
 unfolding s_box affine
-s_box-lt x = affine_bits-lt (inverse x) 8
+s_box_lt x = affine_bits_lt (inverse x) 8
 
 substituted : (l : List ℕ) → Bytes (map s_box l)
 substituted [] = none
-substituted (x ∷ l) = cons (s_box-lt x) (substituted l)
+substituted (x ∷ l) = cons (s_box_lt x) (substituted l)
 
 shifted : {s : List ℕ} → Bytes s → Bytes (shift_rows s)
 shifted {s} b = tabulated 16 (λ i. s ‼ ((i + 4 * (i % 4)) % 16)) (λ i. at b ((i + 4 * (i % 4)) % 16))
@@ -88,12 +88,12 @@ round_keys {key} b (suc n) h =
     let w3 = sums 4 (taken 4 (dropped 12 k)) w2 in
     append w0 (append w1 (append w2 w3))
 
-pub cipher-length : (key block : List ℕ) → length (cipher key block) ≡ 16
+pub cipher_length : (key block : List ℕ) → length (cipher key block) ≡ 16
 unfolding cipher
-cipher-length key block = refl
+cipher_length key block = refl
 
-pub cipher-byte : (key block : List ℕ) → ((i : ℕ) → get_or key i 0 < 256) → (i : ℕ) → get_or (cipher key block) i 0 < 256
+pub cipher_byte : (key block : List ℕ) → ((i : ℕ) → get_or key i 0 < 256) → (i : ℕ) → get_or (cipher key block) i 0 < 256
 unfolding cipher
-cipher-byte key block h =
+cipher_byte key block h =
     at
     (sums 16 (shifted (substituted (rounds key (add_round_key block (round_key key 0)) 9))) (round_keys (each key h) 10 (lit≤ tt)))

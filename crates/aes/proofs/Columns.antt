@@ -14,12 +14,12 @@ abbrev doubles : ℕ → List ℕ
 doubles x = map (λ y. 2 · y) (four_bytes x)
 
 -- the column that the sums and rotations of a word and its double make
-pub mixed-word : (x : ℕ)
+pub mixed_word : (x : ℕ)
     → sum_word
     (sum_word (sum_word (doubles x) (rot_word (sum_word (doubles x) (four_bytes x)))) (rot_word (rot_word (four_bytes x))))
     (rot_word (rot_word (rot_word (four_bytes x))))
     ≡ mix_column (four_bytes x)
-mixed-word x =
+mixed_word x =
     let a = x % 256 in
     let b = x / 256 % 256 in
     let c = x / 65536 % 256 in

@@ -34,8 +34,8 @@ rotated x h =
     ap four_bytes e ∙ packed (byte (x / 256)) (byte (x / 65536)) (byte (x / 16777216)) (byte x)
 
 -- the 8 bits above the k lowest of a sum
-sum-byte : (k x y : ℕ) → bit_xor x y / 2 ^ k % 2 ^ 8 ≡ bit_xor (x / 2 ^ k % 2 ^ 8) (y / 2 ^ k % 2 ^ 8)
-sum-byte k x y = ap (λ (z : ℕ). z % 2 ^ 8) (xor_shr x y k) ∙ xor_mod (x / 2 ^ k) (y / 2 ^ k) 8
+sum_byte : (k x y : ℕ) → bit_xor x y / 2 ^ k % 2 ^ 8 ≡ bit_xor (x / 2 ^ k % 2 ^ 8) (y / 2 ^ k % 2 ^ 8)
+sum_byte k x y = ap (λ (z : ℕ). z % 2 ^ 8) (xor_shr x y k) ∙ xor_mod (x / 2 ^ k) (y / 2 ^ k) 8
 
 pub summed : (x y : ℕ) → four_bytes (bit_xor x y) ≡ sum_word (four_bytes x) (four_bytes y)
-summed x y = cons4 (xor_mod x y 8) (sum-byte 8 x y) (sum-byte 16 x y) (sum-byte 24 x y)
+summed x y = cons4 (xor_mod x y 8) (sum_byte 8 x y) (sum_byte 16 x y) (sum_byte 24 x y)

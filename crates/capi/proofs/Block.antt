@@ -9,8 +9,8 @@ use lib.ListN.{length}
 use lib.Dec.{eqb}
 use Rattle.calls.specs.Causes.{Due}
 use Rattle.calls.specs.Outcome.{refused, accepted}
-use Rattle.calls.proofs.Decisions.{differ, differ-test}
-use Rattle.calls.proofs.Judged.{due, none, next, expander-decided, space-decided}
+use Rattle.calls.proofs.Decisions.{differ, differ_test}
+use Rattle.calls.proofs.Judged.{due, none, next, expander_decided, space_decided}
 use Rattle.expander.specs.Expander.{block_of, choice_of}
 use Rattle.expander.specs.declared.Expander.{Expander}
 use Rattle.expander.specs.declared.Choice.TheVariants.{Known, Unknown}
@@ -18,28 +18,28 @@ use Rattle.expander.proofs.Chosen.{known, unknown}
 use Rattle.capi.specs.Block.{block_causes, block_outcome}
 
 module _ (e : ℕ) (seed : List ℕ) (j room : ℕ) where
-  pub unknown-expander : choice_of e ≡ Unknown → block_outcome e seed j room ≡ refused 3
+  pub unknown_expander : choice_of e ≡ Unknown → block_outcome e seed j room ≡ refused 3
   unfolding block_outcome
-  unknown-expander h = rw (unknown e h)
+  unknown_expander h = rw (unknown e h)
 
   module _ (x : Expander) (h : choice_of e ≡ Known x) where
-    pub wrong-length : length seed ≢ 16 → block_outcome e seed j room ≡ refused 4
+    pub wrong_length : length seed ≢ 16 → block_outcome e seed j room ≡ refused 4
     unfolding block_outcome
-    wrong-length l = rw (known e x h, ne_eqb (length seed) 16 l)
+    wrong_length l = rw (known e x h, ne_eqb (length seed) 16 l)
 
     pub no_room_lem : length seed ≡ 16 → room < 16 → block_outcome e seed j room ≡ refused 11
     unfolding block_outcome
     no_room_lem l r = rw (known e x h, eq-eqb (length seed) 16 l, lt-ltb room 16 r)
 
-    pub all-well : length seed ≡ 16 → 16 ≤ room → block_outcome e seed j room ≡ accepted (block_of x seed j)
+    pub all_well : length seed ≡ 16 → 16 ≤ room → block_outcome e seed j room ≡ accepted (block_of x seed j)
     unfolding block_outcome
-    all-well l r = rw (known e x h, eq-eqb (length seed) 16 l, le-ltb room 16 r, h)
+    all_well l r = rw (known e x h, eq-eqb (length seed) 16 l, le-ltb room 16 r, h)
 
-pub block-due : (e : ℕ) (seed : List ℕ) (j room : ℕ) → Due (block_causes e seed room) (block_outcome e seed j room).number
+pub block_due : (e : ℕ) (seed : List ℕ) (j room : ℕ) → Due (block_causes e seed room) (block_outcome e seed j room).number
 unfolding block_outcome
-block-due e seed j room =
+block_due e seed j room =
     due
-    (expander-decided e
-    (next {b = not (eqb (length seed) 16)} (differ (length seed) 16) (differ-test (length seed) 16)
-    (space-decided 16 room none)))
+    (expander_decided e
+    (next {b = not (eqb (length seed) 16)} (differ (length seed) 16) (differ_test (length seed) 16)
+    (space_decided 16 room none)))
     _

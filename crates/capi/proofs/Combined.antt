@@ -12,7 +12,7 @@ abbrev pub as_numbers : CombineExit → InC
 as_numbers x = record { number = x.number; kind = kind_number x.kind; length = x.length; area = x.area }
 
 -- a case of the answer, as it is returned to C
-pub told-in-c : (r s : Combined) {area : List ℕ} {x : CombineExit} → r ≡ s → told r area ≡ x
+pub told_in_c : (r s : Combined) {area : List ℕ} {x : CombineExit} → r ≡ s → told r area ≡ x
     → as_numbers (record { number = number_of s; kind = kind_of s; length = length_of s; area = area }) ≡ as_numbers x
 unfolding told
-told-in-c r s {area} h e = ap (λ (c : Combined). as_numbers (record { number = number_of c; kind = kind_of c; length = length_of c; area = area })) (sym h) ∙ ap as_numbers e
+told_in_c r s {area} h e = ap (λ (c : Combined). as_numbers (record { number = number_of c; kind = kind_of c; length = length_of c; area = area })) (sym h) ∙ ap as_numbers e

@@ -10,14 +10,14 @@ use lib.ListN.{length}
 use lib.Dec.{ltb}
 use Rattle.bits.specs.Strings.{Bits}
 use Rattle.places.specs.Places.{overlay}
-use Rattle.places.proofs.Places.{overlay-nil}
+use Rattle.places.proofs.Places.{overlay_nil}
 use Rattle.calls.specs.Bounds.{most_bits, threshold_most, threshold_number, outside}
 use Rattle.calls.specs.Causes.{Cause, number_due}
 use Rattle.calls.specs.Outcome.{accepted, judged}
-use Rattle.calls.proofs.Judged.{Clear, first-due, second-due, judged-due, judged-refused, judged-second}
+use Rattle.calls.proofs.Judged.{Clear, first_due, second_due, judged_due, judged_refused, judged_second}
 use Rattle.query.specs.Query.{is_query, prefix_length, children}
 use Rattle.shares.specs.ShareNumbers.{numbers, all_below}
-use Rattle.shares.proofs.Matching.{not-both, both}
+use Rattle.shares.proofs.Matching.{not_both, both}
 use Rattle.combine.specs.declared.Combined.{Combined}
 use Rattle.combine.specs.declared.Combined.TheVariants.{Refused}
 use Rattle.combine.specs.Answer.{Answer, next, list, ended, further, answer_bytes, kind, number_of, length_of, kind_of}
@@ -26,27 +26,27 @@ use Rattle.combine.specs.Combine.{wrong_shares, kept_prefixes, combine_answer, c
 -- ---- the first cause that applies of those of what is lent
 
 module _ (n : ℕ) (weighted : Bool) (t : ℕ) (q s0 s1 : List ℕ) where
-  pub cause-1 : outside most_bits n ≡ true → 1 ≡ number_due (lent_causes n weighted t q s0 s1)
-  cause-1 h = rw h
+  pub cause_1 : outside most_bits n ≡ true → 1 ≡ number_due (lent_causes n weighted t q s0 s1)
+  cause_1 h = rw h
 
   module _ (h₁ : outside most_bits n ≡ false) where
-    pub cause-2 : outside (threshold_most weighted) t ≡ true → threshold_number weighted ≡ number_due (lent_causes n weighted t q s0 s1)
-    cause-2 h = rw (h₁, h)
+    pub cause_2 : outside (threshold_most weighted) t ≡ true → threshold_number weighted ≡ number_due (lent_causes n weighted t q s0 s1)
+    cause_2 h = rw (h₁, h)
 
     module _ (h₂ : outside (threshold_most weighted) t ≡ false) where
-      pub cause-4 : wrong_shares n q s0 s1 ≡ true → 4 ≡ number_due (lent_causes n weighted t q s0 s1)
-      cause-4 h = rw (h₁, h₂, h)
+      pub cause_4 : wrong_shares n q s0 s1 ≡ true → 4 ≡ number_due (lent_causes n weighted t q s0 s1)
+      cause_4 h = rw (h₁, h₂, h)
 
       module _ (h₄ : wrong_shares n q s0 s1 ≡ false) where
-        pub cause-6 : (all_below (numbers s0) && all_below (numbers s1)) ≡ false → 6 ≡ number_due (lent_causes n weighted t q s0 s1)
-        cause-6 h = rw (h₁, h₂, h₄, not-both (all_below (numbers s0)) (all_below (numbers s1)) h)
+        pub cause_6 : (all_below (numbers s0) && all_below (numbers s1)) ≡ false → 6 ≡ number_due (lent_causes n weighted t q s0 s1)
+        cause_6 h = rw (h₁, h₂, h₄, not_both (all_below (numbers s0)) (all_below (numbers s1)) h)
 
         module _ (h₆ : (all_below (numbers s0) && all_below (numbers s1)) ≡ true) where
-          pub cause-9 : is_query n q ≡ false → 9 ≡ number_due (lent_causes n weighted t q s0 s1)
-          cause-9 h = rw (h₁, h₂, h₄, both (all_below (numbers s0)) (all_below (numbers s1)) h₆, h)
+          pub cause_9 : is_query n q ≡ false → 9 ≡ number_due (lent_causes n weighted t q s0 s1)
+          cause_9 h = rw (h₁, h₂, h₄, both (all_below (numbers s0)) (all_below (numbers s1)) h₆, h)
 
-          pub no-cause : is_query n q ≡ true → 0 ≡ number_due (lent_causes n weighted t q s0 s1)
-          no-cause h = rw (h₁, h₂, h₄, both (all_below (numbers s0)) (all_below (numbers s1)) h₆, h)
+          pub no_cause : is_query n q ≡ true → 0 ≡ number_due (lent_causes n weighted t q s0 s1)
+          no_cause h = rw (h₁, h₂, h₄, both (all_below (numbers s0)) (all_below (numbers s1)) h₆, h)
 
 -- ---- what the call returns, and what it leaves in the space d
 
@@ -58,21 +58,21 @@ module _ (n : ℕ) (weighted : Bool) (t : ℕ) (q s0 s1 : List ℕ) (d : List �
       × ((length_of r ≡ length (combine_outcome n weighted t q s0 s1 (length d)).written) × (out ≡ overlay (combine_outcome n weighted t q s0 s1 (length d)).written d)))
 
   -- the same as one equation
-  pub told-exit : (r : Combined) (out : List ℕ) → Told r out → told r out ≡ combine_exit n weighted t q s0 s1 d
+  pub told_exit : (r : Combined) (out : List ℕ) → Told r out → told r out ≡ combine_exit n weighted t q s0 s1 d
   unfolding told
-  told-exit r out h = rw (h.0, h.1.0, h.1.1.0, h.1.1.1)
+  told_exit r out h = rw (h.0, h.1.0, h.1.1.0, h.1.1.1)
 
-  told-refused : (k : ℕ) → number_due (combine_causes n weighted t q s0 s1 (length d)) ≡ k → (k ≡ 0 → ⊥) → Told (Refused k) d
+  told_refused : (k : ℕ) → number_due (combine_causes n weighted t q s0 s1 (length d)) ≡ k → (k ≡ 0 → ⊥) → Told (Refused k) d
   unfolding combine_outcome combine_kind
-  told-refused k h z =
+  told_refused k h z =
       let cs = combine_causes n weighted t q s0 s1 (length d) in
       let bytes = combine_bytes n weighted t q s0 s1 in
-      let j : (judged cs bytes).number ≡ k = judged-due cs bytes ∙ h in
-      let w : (judged cs bytes).written ≡ [] = judged-refused cs bytes (λ y. z (sym j ∙ y)) in (
+      let j : (judged cs bytes).number ≡ k = judged_due cs bytes ∙ h in
+      let w : (judged cs bytes).written ≡ [] = judged_refused cs bytes (λ y. z (sym j ∙ y)) in (
         sym j,
         (
           rw (h, ne_eqb k 0 z),
-          (sym (ap length w), sym (ap (λ (v : List ℕ). overlay v d) w ∙ overlay-nil d)),
+          (sym (ap length w), sym (ap (λ (v : List ℕ). overlay v d) w ∙ overlay_nil d)),
         ),
       )
 
@@ -81,8 +81,8 @@ module _ (n : ℕ) (weighted : Bool) (t : ℕ) (q s0 s1 : List ℕ) (d : List �
   last = space_causes n weighted t q s0 s1 (length d)
 
   -- a cause of what is lent
-  pub told-lent : (k : ℕ) → k ≡ number_due (lent_causes n weighted t q s0 s1) → (k ≡ 0 → ⊥) → Told (Refused k) d
-  told-lent k h z = told-refused k (first-due (lent_causes n weighted t q s0 s1) last (λ y. z (h ∙ y)) ∙ sym h) z
+  pub told_lent : (k : ℕ) → k ≡ number_due (lent_causes n weighted t q s0 s1) → (k ≡ 0 → ⊥) → Told (Refused k) d
+  told_lent k h z = told_refused k (first_due (lent_causes n weighted t q s0 s1) last (λ y. z (h ∙ y)) ∙ sym h) z
 
   -- no cause of what is lent, and the answer a
   module _ (clear : Clear (lent_causes n weighted t q s0 s1)) (a : Answer) (e : combine_answer n weighted t q s0 s1 ≡ a) where
@@ -90,40 +90,40 @@ module _ (n : ℕ) (weighted : Bool) (t : ℕ) (q s0 s1 : List ℕ) (d : List �
     abbrev too_large : Bool
     too_large = ltb (length d) (length (answer_bytes (prefix_length q) a)) || passes_limit a
 
-    last-number : number_due (combine_causes n weighted t q s0 s1 (length d)) ≡ cond too_large 11 0
-    last-number = second-due (lent_causes n weighted t q s0 s1) last clear ∙ rw e
+    last_number : number_due (combine_causes n weighted t q s0 s1 (length d)) ≡ cond too_large 11 0
+    last_number = second_due (lent_causes n weighted t q s0 s1) last clear ∙ rw e
 
-    pub told-large : too_large ≡ true → Told (Refused 11) d
-    told-large h = told-refused 11 (last-number ∙ rw h) (λ z. omega arith)
+    pub told_large : too_large ≡ true → Told (Refused 11) d
+    told_large h = told_refused 11 (last_number ∙ rw h) (λ z. omega arith)
 
-    pub told-answer : too_large ≡ false → (r : Combined) (out : List ℕ) → number_of r ≡ 0 → kind_of r ≡ some (kind a)
+    pub told_answer : too_large ≡ false → (r : Combined) (out : List ℕ) → number_of r ≡ 0 → kind_of r ≡ some (kind a)
         → length_of r ≡ length (answer_bytes (prefix_length q) a) → out ≡ overlay (answer_bytes (prefix_length q) a) d → Told r out
     unfolding combine_outcome combine_kind
-    told-answer h r out number what size space =
+    told_answer h r out number what size space =
         let o : judged (combine_causes n weighted t q s0 s1 (length d)) (combine_bytes n weighted t q s0 s1) ≡ accepted (answer_bytes (prefix_length q) a) =
-        judged-second (lent_causes n weighted t q s0 s1) last (combine_bytes n weighted t q s0 s1) clear ∙ rw (e, h) in
-        (rw o number, (rw (last-number, h, e) what, (rw o size, rw o space)))
+        judged_second (lent_causes n weighted t q s0 s1) last (combine_bytes n weighted t q s0 s1) clear ∙ rw (e, h) in
+        (rw o number, (rw (last_number, h, e) what, (rw o size, rw o space)))
 
 -- ---- the answer
 
 module _ (n : ℕ) (weighted : Bool) (t : ℕ) (q s0 s1 : List ℕ) where
-  pub answer-list : prefix_length q ≡ n → combine_answer n weighted t q s0 s1 ≡ list (kept_prefixes weighted t q s0 s1)
-  answer-list e = rw (eq-eqb (prefix_length q) n e)
+  pub answer_list : prefix_length q ≡ n → combine_answer n weighted t q s0 s1 ≡ list (kept_prefixes weighted t q s0 s1)
+  answer_list e = rw (eq-eqb (prefix_length q) n e)
 
   module _ (e : prefix_length q ≡ n → ⊥) where
-    answer-further : combine_answer n weighted t q s0 s1 ≡ further (kept_prefixes weighted t q s0 s1)
-    answer-further = rw (ne_eqb (prefix_length q) n e)
+    answer_further : combine_answer n weighted t q s0 s1 ≡ further (kept_prefixes weighted t q s0 s1)
+    answer_further = rw (ne_eqb (prefix_length q) n e)
 
-    pub answer-ended : length (kept_prefixes weighted t q s0 s1) < 1 → combine_answer n weighted t q s0 s1 ≡ ended
-    answer-ended h = answer-further ∙ none (kept_prefixes weighted t q s0 s1) h
+    pub answer_ended : length (kept_prefixes weighted t q s0 s1) < 1 → combine_answer n weighted t q s0 s1 ≡ ended
+    answer_ended h = answer_further ∙ none (kept_prefixes weighted t q s0 s1) h
       where
         none : (ps : List Bits) → length ps < 1 → further ps ≡ ended
         none [] h = refl
         none (p ∷ ps) h = absurd (omega arith)
 
-    pub answer-next : 0 < length (kept_prefixes weighted t q s0 s1) → combine_answer n weighted t q s0 s1 ≡ next (children (kept_prefixes weighted t q s0 s1))
-    answer-next h = answer-further ∙ some-kept (kept_prefixes weighted t q s0 s1) h
+    pub answer_next : 0 < length (kept_prefixes weighted t q s0 s1) → combine_answer n weighted t q s0 s1 ≡ next (children (kept_prefixes weighted t q s0 s1))
+    answer_next h = answer_further ∙ some_kept (kept_prefixes weighted t q s0 s1) h
       where
-        some-kept : (ps : List Bits) → 0 < length ps → further ps ≡ next (children ps)
-        some-kept [] h = absurd (omega arith)
-        some-kept (p ∷ ps) h = refl
+        some_kept : (ps : List Bits) → 0 < length ps → further ps ≡ next (children ps)
+        some_kept [] h = absurd (omega arith)
+        some_kept (p ∷ ps) h = refl

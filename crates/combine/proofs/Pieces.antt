@@ -7,12 +7,12 @@ use mathlib.Core.List.{List, [], ◌++◌}
 use lib.ListN.{length, get_or, take, drop}
 use Rattle.bits.specs.Strings.{Bits}
 use Rattle.bits.specs.Packing.{packed_length, spare_zero}
-use Rattle.bits.proofs.Packed.{pack-unpack}
+use Rattle.bits.proofs.Packed.{pack_unpack}
 use Rattle.query.specs.Query.{packs, parts, prefix_length, prefix_count, packed_prefixes, spares_zero}
 use Rattle.query.specs.Prefix.{part}
 use Rattle.query.proofs.Parts.{part_bytes}
 use Rattle.kept.proofs.Onward as pieces
-use Rattle.shares.proofs.Numbers.{added_at, added_from, added-step}
+use Rattle.shares.proofs.Numbers.{added_at, added_from, added_step}
 use Rattle.combine.specs.Combine.{passing}
 
 -- ---- those of m prefixes of len bits, w bytes each, from a place of the query on that pass, with their totals from a place of the shares on
@@ -27,20 +27,20 @@ module _ (passes : ℕ → Bool) (len : ℕ) (q s0 s1 : List ℕ) where
     rest = kept_from (m - 1) (from + w) (place + 8)
 
     -- what is due to the first of them, and what is left
-    pub onward-step : (last : Bool) → ((i : ℕ) → get_or q i 0 < 256) → from + w ≤ length q → spare_zero len (take w (drop from q)) ≡ true
+    pub onward_step : (last : Bool) → ((i : ℕ) → get_or q i 0 < 256) → from + w ≤ length q → spare_zero len (take w (drop from q)) ≡ true
         → packs (pieces.onward last (kept_from m from place)) ≡ cond b (pieces.onward_bytes last len (part w from q)) [] ++ packs (pieces.onward last rest)
-    onward-step last byte room z =
-        rw (added-step s0 s1 m place h room0 room1)
-        (pieces.onward-step passes len q w f m from h _ _ b e last room (pack-unpack len (take w (drop from q)) (rw (← f) (part_bytes w from q byte room)) z))
+    onward_step last byte room z =
+        rw (added_step s0 s1 m place h room0 room1)
+        (pieces.onward_step passes len q w f m from h _ _ b e last room (pack_unpack len (take w (drop from q)) (rw (← f) (part_bytes w from q byte room)) z))
 
 -- ---- all prefixes of a query
 
 module _ (q : List ℕ) (len w m : ℕ) (el : len ≡ prefix_length q) (ew : w ≡ packed_length len) (em : m ≡ prefix_count q) where
-  pub query-room : 6 + prefix_count q * packed_length (prefix_length q) ≤ length q → 6 + m * w ≤ length q
-  query-room h = rw (ew, em, el) h
+  pub query_room : 6 + prefix_count q * packed_length (prefix_length q) ≤ length q → 6 + m * w ≤ length q
+  query_room h = rw (ew, em, el) h
 
-  pub query-spares : spares_zero (prefix_length q) (packed_prefixes q) ≡ true → spares_zero len (parts w m (drop 6 q)) ≡ true
-  query-spares h = rw (ew, em, el) h
+  pub query_spares : spares_zero (prefix_length q) (packed_prefixes q) ≡ true → spares_zero len (parts w m (drop 6 q)) ≡ true
+  query_spares h = rw (ew, em, el) h
 
   pub kept_whole : (passes : ℕ → Bool) (s0 s1 : List ℕ) → length s0 ≡ 8 * prefix_count q → length s1 ≡ 8 * prefix_count q
       → passing passes q s0 s1 ≡ kept_from passes len q s0 s1 m 6 0

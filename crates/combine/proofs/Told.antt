@@ -11,16 +11,16 @@ use Rattle.places.specs.Lists.{how_many}
 use Rattle.bits.specs.Strings.{Bits}
 use Rattle.bits.specs.Packing.{packed_length}
 use Rattle.places.specs.Places.{put_at}
-use Rattle.places.proofs.Places.{put_at-overlay, overlay-nil}
-use Rattle.calls.proofs.Decisions.{neither-test}
+use Rattle.places.proofs.Places.{put_at_overlay, overlay_nil}
+use Rattle.calls.proofs.Decisions.{neither_test}
 use Rattle.kept.specs.Kept.{reaches_as}
 use Rattle.query.specs.Query.{packs, query, limit, prefix_length, children}
-use Rattle.query.proofs.Pieces.{fields, query-put}
+use Rattle.query.proofs.Pieces.{fields, query_put}
 use Rattle.combine.specs.declared.Combined.TheVariants.{Next, List as Found, Ended, Refused}
 use Rattle.combine.specs.Answer.{next, list, ended}
 use Rattle.combine.specs.Combine.{share_totals, kept_prefixes}
-use Rattle.combine.proofs.Ready.{Ready, kept-count, list-size, next-count, next-size, children-size}
-use Rattle.combine.proofs.Outcome.{Told, told-large, told-answer, answer-list, answer-ended, answer-next}
+use Rattle.combine.proofs.Ready.{Ready, kept_count, list_size_lem, next_count, next_size_lem, children_size}
+use Rattle.combine.proofs.Outcome.{Told, told_large, told_answer, answer_list, answer_ended, answer_next}
 
 or_right : (a b : Bool) → b ≡ true → (a || b) ≡ true
 or_right true b h = refl
@@ -32,25 +32,25 @@ module _ (n : ℕ) (weighted : Bool) (t : ℕ) (q s0 s1 d : List ℕ) (byte : (i
   abbrev ks : List Bits
   ks = kept_prefixes weighted t q s0 s1
 
-  kept-m : length ks ≡ m
-  kept-m = kept-count n weighted t q s0 s1 byte r (reaches_as weighted t) m em
+  kept_m : length ks ≡ m
+  kept_m = kept_count n weighted t q s0 s1 byte r (reaches_as weighted t) m em
 
   -- ---- at length n
 
   module _ (e : len ≡ n) (w : ℕ) (ew : w ≡ packed_length len) where
-    pub list-bytes : length (packs ks) ≡ m * w
-    list-bytes = list-size n weighted t q s0 s1 byte r (reaches_as weighted t) m em ∙ rw (ew, el)
+    pub list_bytes_lem : length (packs ks) ≡ m * w
+    list_bytes_lem = list_size_lem n weighted t q s0 s1 byte r (reaches_as weighted t) m em ∙ rw (ew, el)
 
-    pub list-short : length d < m * w → Told n weighted t q s0 s1 d (Refused 11) d
-    list-short h =
-        told-large n weighted t q s0 s1 d r.clear (list ks) (answer-list n weighted t q s0 s1 (sym el ∙ e))
-        (rw (lt-ltb (length d) (length (packs ks)) (omega (arith, list-bytes))))
+    pub list_short : length d < m * w → Told n weighted t q s0 s1 d (Refused 11) d
+    list_short h =
+        told_large n weighted t q s0 s1 d r.clear (list ks) (answer_list n weighted t q s0 s1 (sym el ∙ e))
+        (rw (lt-ltb (length d) (length (packs ks)) (omega (arith, list_bytes_lem))))
 
-    pub list-told : m * w ≤ length d → (out : List ℕ) → out ≡ put_at d 0 (packs ks) → Told n weighted t q s0 s1 d (Found (m * w)) out
-    list-told h out p =
-        let f : length (packs ks) ≤ length d = omega (arith, list-bytes) in
-        told-answer n weighted t q s0 s1 d r.clear (list ks) (answer-list n weighted t q s0 s1 (sym el ∙ e)) (neither-test (le-ltb (length d) (length (packs ks)) f) refl)
-        (Found (m * w)) out refl refl (sym list-bytes) (p ∙ put_at-overlay d (packs ks) f)
+    pub list_told : m * w ≤ length d → (out : List ℕ) → out ≡ put_at d 0 (packs ks) → Told n weighted t q s0 s1 d (Found (m * w)) out
+    list_told h out p =
+        let f : length (packs ks) ≤ length d = omega (arith, list_bytes_lem) in
+        told_answer n weighted t q s0 s1 d r.clear (list ks) (answer_list n weighted t q s0 s1 (sym el ∙ e)) (neither_test (le-ltb (length d) (length (packs ks)) f) refl)
+        (Found (m * w)) out refl refl (sym list_bytes_lem) (p ∙ put_at_overlay d (packs ks) f)
 
   -- ---- before length n
 
@@ -58,10 +58,10 @@ module _ (n : ℕ) (weighted : Bool) (t : ℕ) (q s0 s1 d : List ℕ) (byte : (i
     not_end : prefix_length q ≡ n → ⊥
     not_end h = e (el ∙ h)
 
-    pub ended-told : m < 1 → Told n weighted t q s0 s1 d Ended d
-    ended-told h =
-        told-answer n weighted t q s0 s1 d r.clear ended (answer-ended n weighted t q s0 s1 not_end (omega (arith, kept-m)))
-        (neither-test (le-ltb (length d) 0 (omega arith)) refl) Ended d refl refl refl (sym (overlay-nil d))
+    pub ended_told : m < 1 → Told n weighted t q s0 s1 d Ended d
+    ended_told h =
+        told_answer n weighted t q s0 s1 d r.clear ended (answer_ended n weighted t q s0 s1 not_end (omega (arith, kept_m)))
+        (neither_test (le-ltb (length d) 0 (omega arith)) refl) Ended d refl refl refl (sym (overlay_nil d))
 
     module _ (some : 1 ≤ m) where
       abbrev qs : List Bits
@@ -69,32 +69,32 @@ module _ (n : ℕ) (weighted : Bool) (t : ℕ) (q s0 s1 d : List ℕ) (byte : (i
 
       pub too_many : 65535 < m → Told n weighted t q s0 s1 d (Refused 11) d
       too_many h =
-          told-large n weighted t q s0 s1 d r.clear (next qs) (answer-next n weighted t q s0 s1 not_end (omega (arith, kept-m)))
-          (or_right (ltb (length d) (length (query (prefix_length q) qs))) (ltb limit (length qs)) (lt-ltb limit (length qs) (omega (arith, next-count n weighted t q s0 s1 byte r (reaches_as weighted t) m em))))
+          told_large n weighted t q s0 s1 d r.clear (next qs) (answer_next n weighted t q s0 s1 not_end (omega (arith, kept_m)))
+          (or_right (ltb (length d) (length (query (prefix_length q) qs))) (ltb limit (length qs)) (lt-ltb limit (length qs) (omega (arith, next_count n weighted t q s0 s1 byte r (reaches_as weighted t) m em))))
 
       module _ (w : ℕ) (ew : w ≡ packed_length (suc len)) where
-        next-bytes : length (query (prefix_length q) qs) ≡ 6 + 2 * m * w
-        next-bytes = next-size n weighted t q s0 s1 byte r (reaches_as weighted t) m em ∙ rw (ew, el)
+        next_bytes : length (query (prefix_length q) qs) ≡ 6 + 2 * m * w
+        next_bytes = next_size_lem n weighted t q s0 s1 byte r (reaches_as weighted t) m em ∙ rw (ew, el)
 
-        pub next-short : length d < 6 + 2 * m * w → Told n weighted t q s0 s1 d (Refused 11) d
-        next-short h =
-            told-large n weighted t q s0 s1 d r.clear (next qs) (answer-next n weighted t q s0 s1 not_end (omega (arith, kept-m)))
-            (rw (lt-ltb (length d) (length (query (prefix_length q) qs)) (omega (arith, next-bytes))))
+        pub next_short : length d < 6 + 2 * m * w → Told n weighted t q s0 s1 d (Refused 11) d
+        next_short h =
+            told_large n weighted t q s0 s1 d r.clear (next qs) (answer_next n weighted t q s0 s1 not_end (omega (arith, kept_m)))
+            (rw (lt-ltb (length d) (length (query (prefix_length q) qs)) (omega (arith, next_bytes))))
 
-        pub children-bytes : length (packs qs) ≡ 2 * m * w
-        children-bytes = children-size n weighted t q s0 s1 byte r (reaches_as weighted t) m em ∙ rw (ew, el)
+        pub children_bytes : length (packs qs) ≡ 2 * m * w
+        children_bytes = children_size n weighted t q s0 s1 byte r (reaches_as weighted t) m em ∙ rw (ew, el)
 
         -- the two fields and then the children make the next query
-        next-put : 6 + 2 * m * w ≤ length d → (o₁ out : List ℕ) → o₁ ≡ put_at d 0 (fields len (2 * m)) → out ≡ put_at o₁ 6 (packs qs)
+        next_put : 6 + 2 * m * w ≤ length d → (o₁ out : List ℕ) → o₁ ≡ put_at d 0 (fields len (2 * m)) → out ≡ put_at o₁ 6 (packs qs)
             → out ≡ put_at d 0 (query (prefix_length q) qs)
-        next-put h o₁ out p₁ p₂ =
-            query-put (prefix_length q) (2 * m) qs (sym (next-count n weighted t q s0 s1 byte r (reaches_as weighted t) m em)) d 0 (omega (arith, next-bytes)) o₁ out (rw el at p₁) p₂
+        next_put h o₁ out p₁ p₂ =
+            query_put (prefix_length q) (2 * m) qs (sym (next_count n weighted t q s0 s1 byte r (reaches_as weighted t) m em)) d 0 (omega (arith, next_bytes)) o₁ out (rw el at p₁) p₂
 
-        pub next-told : m ≤ 65535 → 6 + 2 * m * w ≤ length d → (o₁ out : List ℕ) → o₁ ≡ put_at d 0 (fields len (2 * m)) → out ≡ put_at o₁ 6 (packs qs)
+        pub next_told : m ≤ 65535 → 6 + 2 * m * w ≤ length d → (o₁ out : List ℕ) → o₁ ≡ put_at d 0 (fields len (2 * m)) → out ≡ put_at o₁ 6 (packs qs)
             → Told n weighted t q s0 s1 d (Next (6 + 2 * m * w)) out
-        next-told few h o₁ out p₁ p₂ =
-            let f : length (query (prefix_length q) qs) ≤ length d = omega (arith, next-bytes) in
-            let within : length qs ≤ limit = omega (arith, next-count n weighted t q s0 s1 byte r (reaches_as weighted t) m em) in
-            told-answer n weighted t q s0 s1 d r.clear (next qs) (answer-next n weighted t q s0 s1 not_end (omega (arith, kept-m)))
-            (neither-test (le-ltb (length d) (length (query (prefix_length q) qs)) f) (le-ltb limit (length qs) within))
-            (Next (6 + 2 * m * w)) out refl refl (sym next-bytes) (next-put h o₁ out p₁ p₂ ∙ put_at-overlay d (query (prefix_length q) qs) f)
+        next_told few h o₁ out p₁ p₂ =
+            let f : length (query (prefix_length q) qs) ≤ length d = omega (arith, next_bytes) in
+            let within : length qs ≤ limit = omega (arith, next_count n weighted t q s0 s1 byte r (reaches_as weighted t) m em) in
+            told_answer n weighted t q s0 s1 d r.clear (next qs) (answer_next n weighted t q s0 s1 not_end (omega (arith, kept_m)))
+            (neither_test (le-ltb (length d) (length (query (prefix_length q) qs)) f) (le-ltb limit (length qs) within))
+            (Next (6 + 2 * m * w)) out refl refl (sym next_bytes) (next_put h o₁ out p₁ p₂ ∙ put_at_overlay d (query (prefix_length q) qs) f)

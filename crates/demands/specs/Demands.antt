@@ -1,4 +1,4 @@
--- The user's three demands, sentence by sentence, as three types; `demand-1`, `demand-2` and `demand-3` in the crate's proofs are their proofs.
+-- The user's three demands, sentence by sentence, as three types; `demand_1`, `demand_2` and `demand_3` in the crate's proofs are their proofs.
 -- Their calls stand in `Calls`, their keys and searches in `Words`; every other word is defined where it is brought in from.
 use Rattle.std.specs.Prelude.{ℕ, ◌+◌, ◌*◌, ◌/◌, ◌%◌, ◌≤◌, ◌<◌, ◌≡◌, Bool, true, false, cond, ◌&&◌, List, [], ◌∷◌, ◌++◌, ◌≢◌, ◌↔◌, length, take, drop, replicate, eqb, ℤ, ◌+ℤ◌}
 use Rattle.std.proofs.Math.Option.{none}

@@ -39,7 +39,7 @@ pub record Key : Type 0 where
 -- The string has 1 to 256 bits, and the seeds are any of 16 bytes.
 pub record InBounds (k : Key) : Type 0 where
   pub some_bits : 1 ≤ length k.string
-  pub not-longer : length k.string ≤ 256
+  pub not_longer : length k.string ≤ 256
   pub sized0 : Bytes 16 k.seed0
   pub sized1 : Bytes 16 k.seed1
 
@@ -95,7 +95,7 @@ by_kept_calls s nodes = kept_played s s.n (begun s nodes) first_query
 -- Its n, its expander and the number of its reports are in their bounds.
 pub record Servable (s : Lent) (xs : List Bits) (e : Expander) : Type 0 where
   pub some_bits : 1 ≤ s.n
-  pub not-longer : s.n ≤ 256
+  pub not_longer : s.n ≤ 256
   pub named : s.expander ≡ expander_number e
   pub few : length xs ≤ 65535
 
@@ -110,14 +110,14 @@ holders_of s = fewest_holders s.weighted (threshold_of s)
 -- Besides, its t is in its bounds, and its areas have the space that is named for an honest record and list.
 pub record Ready (s : Lent) (xs : List Bits) (e : Expander) : Type 0 where
   pub servable : Servable s xs e
-  pub some-threshold : 1 ≤ threshold_of s
-  pub not-higher : threshold_of s ≤ greatest_threshold s
-  pub record-space : record_space s.n (holders_of s) (length (counted_strings s xs)) ≤ length s.record_area
-  pub list-space : list_space s.n (holders_of s) (length (counted_strings s xs)) ≤ length s.list_area
+  pub some_threshold : 1 ≤ threshold_of s
+  pub not_higher : threshold_of s ≤ greatest_threshold s
+  pub enough_record_space : record_space s.n (holders_of s) (length (counted_strings s xs)) ≤ length s.record_area
+  pub enough_list_space : list_space s.n (holders_of s) (length (counted_strings s xs)) ≤ length s.list_area
 
 -- The strings have n bits, there are a weight and two root seeds of 16 bytes for each, and every weight is one where the search is not weighted.
 pub record Seeded (s : Lent) (xs : List Bits) (ws : List ℤ) : Type 0 where
-  pub n-bits : OfLength s.n xs
+  pub n_bits : OfLength s.n xs
   pub weighed : length ws ≡ length xs
   pub weights : All IsWeight ws
   pub unweighted : s.weighted ≡ false → EveryOne ws

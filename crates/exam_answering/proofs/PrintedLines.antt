@@ -21,27 +21,27 @@ unfolding entry_lines
 entries_none k zero ps ts h = refl
 entries_none k (suc m) ps ts h = absurd (omega arith)
 
-pub entries-step : (k w m from place : ℕ) (bytes : List ℕ) → w ≡ packed_length k → 0 < m
+pub entries_step : (k w m from place : ℕ) (bytes : List ℕ) → w ≡ packed_length k → 0 < m
     → entry_lines k m (drop from bytes) (drop place bytes)
     ≡ prefix_line (unpack k (take w (drop from bytes))) (from_little (take 8 (drop place bytes))) ++ entry_lines k (m - 1) (drop (from + w) bytes) (drop (place + 8) bytes)
 unfolding entry_lines
-entries-step k w zero from place bytes e h = absurd (omega arith)
-entries-step k w (suc m) from place bytes e h =
+entries_step k w zero from place bytes e h = absurd (omega arith)
+entries_step k w (suc m) from place bytes e h =
     let f : suc m - 1 ≡ m = omega arith in
     rw (e, f, drop-drop (packed_length k) from bytes, drop-drop 8 place bytes)
 
 -- ---- the strings of a list
 
-pub list-none : (n m : ℕ) (bytes : List ℕ) → m ≤ 0 → list_lines n m bytes ≡ []
+pub list_none : (n m : ℕ) (bytes : List ℕ) → m ≤ 0 → list_lines n m bytes ≡ []
 unfolding list_lines
-list-none n zero bytes h = refl
-list-none n (suc m) bytes h = absurd (omega arith)
+list_none n zero bytes h = refl
+list_none n (suc m) bytes h = absurd (omega arith)
 
-pub list-step : (n w m from : ℕ) (bytes : List ℕ) → w ≡ packed_length n → 0 < m
+pub list_step : (n w m from : ℕ) (bytes : List ℕ) → w ≡ packed_length n → 0 < m
     → list_lines n m (drop from bytes) ≡ heavy_line (unpack n (take w (drop from bytes))) ++ list_lines n (m - 1) (drop (from + w) bytes)
 unfolding list_lines
-list-step n w zero from bytes e h = absurd (omega arith)
-list-step n w (suc m) from bytes e h =
+list_step n w zero from bytes e h = absurd (omega arith)
+list_step n w (suc m) from bytes e h =
     let f : suc m - 1 ≡ m = omega arith in
     rw (e, f, drop-drop (packed_length n) from bytes)
 
@@ -52,22 +52,22 @@ abbrev pub round_lines : List ℕ → List ℕ
 round_lines bytes = entry_lines (prefix_length bytes) (prefix_count bytes) (drop 6 bytes) (drop (query_length bytes) bytes)
 
 module _ (bytes : List ℕ) (k count totals : ℕ) (e : k ≡ prefix_length bytes) (f : count ≡ prefix_count bytes) (g : totals ≡ query_length bytes) where
-  pub round-lines : entry_lines k count (drop 6 bytes) (drop totals bytes) ≡ round_lines bytes
-  round-lines = rw (e, f, g)
+  pub round_lines_lem : entry_lines k count (drop 6 bytes) (drop totals bytes) ≡ round_lines bytes
+  round_lines_lem = rw (e, f, g)
 
   -- its prefixes and its totals lie within
   pub round_room : round_length bytes ≤ length bytes → (6 + count * packed_length k ≤ length bytes) × (totals + count * 8 ≤ length bytes)
   round_room r = rw (e, f, g) (omega arith, r)
 
-pub record-none : (m : ℕ) (bytes : List ℕ) → m ≤ 0 → rounds_lines m bytes ≡ []
+pub record_none : (m : ℕ) (bytes : List ℕ) → m ≤ 0 → rounds_lines m bytes ≡ []
 unfolding rounds_lines
-record-none zero bytes h = refl
-record-none (suc m) bytes h = absurd (omega arith)
+record_none zero bytes h = refl
+record_none (suc m) bytes h = absurd (omega arith)
 
-pub record-end : (m : ℕ) (bytes : List ℕ) → length bytes ≡ 0 → rounds_lines m bytes ≡ []
+pub record_end_lem : (m : ℕ) (bytes : List ℕ) → length bytes ≡ 0 → rounds_lines m bytes ≡ []
 unfolding rounds_lines
-record-end zero bytes h = refl
-record-end (suc m) bytes h = rw (eq-eqb (length bytes) 0 h)
+record_end_lem zero bytes h = refl
+record_end_lem (suc m) bytes h = rw (eq-eqb (length bytes) 0 h)
 
 -- what stands from a place on
 pub rest_of : (from : ℕ) (bytes : List ℕ) → take (length bytes - from) (drop from bytes) ≡ drop from bytes
@@ -77,18 +77,18 @@ rest_of from bytes = take_all (length bytes - from) (drop from bytes) (omega (ar
 some : (from : ℕ) (bytes : List ℕ) → from < length bytes → length (drop from bytes) ≡ 0 → ⊥
 some from bytes inside e = omega (arith, length-drop from bytes)
 
-pub record-step : (m from size : ℕ) (bytes : List ℕ) → size ≡ round_length (drop from bytes) → 0 < m → from < length bytes
+pub record_step : (m from size : ℕ) (bytes : List ℕ) → size ≡ round_length (drop from bytes) → 0 < m → from < length bytes
     → rounds_lines m (drop from bytes) ≡ round_lines (drop from bytes) ++ rounds_lines (m - 1) (drop (from + size) bytes)
 unfolding rounds_lines
-record-step zero from size bytes e h inside = absurd (omega arith)
-record-step (suc m) from size bytes e h inside =
+record_step zero from size bytes e h inside = absurd (omega arith)
+record_step (suc m) from size bytes e h inside =
     let f : suc m - 1 ≡ m = omega arith in
     rw (e, ne_eqb (length (drop from bytes)) 0 (some from bytes inside), f, drop-drop (round_length (drop from bytes)) from bytes)
 
-pub rounds-step : (m from size : ℕ) (bytes : List ℕ) → size ≡ round_length (drop from bytes) → 0 < m → from < length bytes → Rounds round_length m (drop from bytes)
+pub rounds_step : (m from size : ℕ) (bytes : List ℕ) → size ≡ round_length (drop from bytes) → 0 < m → from < length bytes → Rounds round_length m (drop from bytes)
     → (round_length (drop from bytes) ≤ length (drop from bytes)) × Rounds round_length (m - 1) (drop (from + size) bytes)
-rounds-step zero from size bytes e h inside r = absurd (omega arith)
-rounds-step (suc m) from size bytes e h inside (inl z) = absurd (some from bytes inside z)
-rounds-step (suc m) from size bytes e h inside (inr r) =
+rounds_step zero from size bytes e h inside r = absurd (omega arith)
+rounds_step (suc m) from size bytes e h inside (inl z) = absurd (some from bytes inside z)
+rounds_step (suc m) from size bytes e h inside (inr r) =
     let f : suc m - 1 ≡ m = omega arith in
     (r.1, rw (e, f, ← drop-drop (round_length (drop from bytes)) from bytes) r.2)

@@ -17,9 +17,9 @@ use Rattle.exam_text.specs.Sheet.{Sheet, expander_number, Within}
 use Rattle.exam_answering.specs.AnswerText.{answer_text}
 use Rattle.exam_lines.specs.Lines.{written_in, output_for, refused_outcome}
 use Rattle.exam_answering.specs.Exam.{exam_outcome, answer_space, output, respond_outcome}
-use Rattle.exam_text.proofs.ReaderExact.{SheetOrNone, sheet-or-none}
-use Rattle.exam_answering.proofs.Exam.{sheet-outcome, none-outcome}
-use Rattle.exam_answering.proofs.ExamTheorems.{exam-refused, answer-fits}
+use Rattle.exam_text.proofs.ReaderExact.{SheetOrNone, sheet_or_none}
+use Rattle.exam_answering.proofs.Exam.{sheet_outcome, none_outcome}
+use Rattle.exam_answering.proofs.ExamTheorems.{exam_refused, answer_fits}
 
 -- the outcome of `answer` where its number is 0 or 11, and that of the refusal's line where not
 abbrev responds : Outcome → ℕ → Outcome
@@ -27,7 +27,7 @@ responds o room = cond (eqb o.number 0 || eqb o.number 11) o (refused_outcome o.
 
 responding : (bytes : List ℕ) (room : ℕ) → respond_outcome bytes room ≡ responds (exam_outcome bytes room) room
 unfolding respond_outcome output refused_outcome
-responding bytes room = read (sheet-or-none bytes)
+responding bytes room = read (sheet_or_none bytes)
   where
     go : (s : Sheet) → Within s → (b c : Bool) → outside most_threshold s.t ≡ c → (d l : Bool) → ltb room (length (answer_text s)) ≡ l
         → let outcome : Bool → Outcome = λ l. judged (cause 1 (T b) b ∷ cause 2 (T c) c ∷ cause 3 (T d) d ∷ cause 11 (T l) l ∷ []) (answer_text s) in
@@ -35,29 +35,29 @@ responding bytes room = read (sheet-or-none bytes)
     go s w true c e d l f = refl
     go s w false true e d l f = refl
     go s w false false e true l f = refl
-    go s w false false e false true f = rw (answer-fits s w answer_space (omega arith) e, f)
-    go s w false false e false false f = rw (answer-fits s w answer_space (omega arith) e, f)
+    go s w false false e false true f = rw (answer_fits s w answer_space (omega arith) e, f)
+    go s w false false e false false f = rw (answer_fits s w answer_space (omega arith) e, f)
 
     read : SheetOrNone bytes
         → written_in (output_for (exam_outcome bytes answer_space)) room ≡ responds (exam_outcome bytes room) room
     read (inl (s, w, is)) =
-        rw (is, sheet-outcome s w answer_space, sheet-outcome s w room)
+        rw (is, sheet_outcome s w answer_space, sheet_outcome s w room)
         (go s w (outside most_bits s.n) (outside most_threshold s.t) refl (not (is_expander (expander_number s.expander))) (ltb room (length (answer_text s))) refl)
-    read (inr none) = rw (none-outcome bytes none answer_space, none-outcome bytes none room)
+    read (inr none) = rw (none_outcome bytes none answer_space, none_outcome bytes none room)
 
 module _ (bytes : List ℕ) (room : ℕ) where
   -- Where `answer` succeeds, the outcome is the same.
-  pub respond-answer : (exam_outcome bytes room).number ≡ 0 → respond_outcome bytes room ≡ exam_outcome bytes room
-  respond-answer h = responding bytes room ∙ rw h
+  pub respond_answer : (exam_outcome bytes room).number ≡ 0 → respond_outcome bytes room ≡ exam_outcome bytes room
+  respond_answer h = responding bytes room ∙ rw h
 
   -- Where the answer does not fit, the outcome is the same.
-  pub respond-space : (exam_outcome bytes room).number ≡ 11 → respond_outcome bytes room ≡ exam_outcome bytes room
-  respond-space h = responding bytes room ∙ rw h
+  pub respond_space : (exam_outcome bytes room).number ≡ 11 → respond_outcome bytes room ≡ exam_outcome bytes room
+  respond_space h = responding bytes room ∙ rw h
 
   -- Where `answer` refuses with another number, the outcome is that of its line.
-  pub respond-line : (exam_outcome bytes room).number ≢ 0 → (exam_outcome bytes room).number ≢ 11
+  pub respond_line : (exam_outcome bytes room).number ≢ 0 → (exam_outcome bytes room).number ≢ 11
       → respond_outcome bytes room ≡ refused_outcome (exam_outcome bytes room).number room
-  respond-line h k = responding bytes room ∙ rw (ne_eqb (exam_outcome bytes room).number 0 h, ne_eqb (exam_outcome bytes room).number 11 k)
+  respond_line h k = responding bytes room ∙ rw (ne_eqb (exam_outcome bytes room).number 0 h, ne_eqb (exam_outcome bytes room).number 11 k)
 
 -- ---- what a call returns and leaves
 
@@ -66,16 +66,16 @@ abbrev pub Replied : Outcome → List ℕ → ℕ → ℕ → List ℕ → Type 
 Replied o out number size after = (number ≡ o.number) × ((size ≡ length o.written) × (after ≡ overlay o.written out))
 
 module _ (bytes out : List ℕ) (number size : ℕ) (after : List ℕ) (replied : Replied (exam_outcome bytes (length out)) out number size after) where
-  pub answer-replied : number ≡ 0 → Replied (respond_outcome bytes (length out)) out number size after
-  answer-replied h = rw (respond-answer bytes (length out) (sym replied.0 ∙ h)) replied
+  pub answer_replied : number ≡ 0 → Replied (respond_outcome bytes (length out)) out number size after
+  answer_replied h = rw (respond_answer bytes (length out) (sym replied.0 ∙ h)) replied
 
-  pub space-replied : number ≡ 11 → Replied (respond_outcome bytes (length out)) out number size after
-  space-replied h = rw (respond-space bytes (length out) (sym replied.0 ∙ h)) replied
+  pub space_replied : number ≡ 11 → Replied (respond_outcome bytes (length out)) out number size after
+  space_replied h = rw (respond_space bytes (length out) (sym replied.0 ∙ h)) replied
 
   -- a refusal with another number left the space as it was, and its line follows
-  pub line-replied : number ≢ 0 → number ≢ 11 → (number₂ size₂ : ℕ) (last : List ℕ) → Replied (refused_outcome number (length after)) after number₂ size₂ last
+  pub line_replied : number ≢ 0 → number ≢ 11 → (number₂ size₂ : ℕ) (last : List ℕ) → Replied (refused_outcome number (length after)) after number₂ size₂ last
       → Replied (respond_outcome bytes (length out)) out number₂ size₂ last
-  line-replied h g number₂ size₂ last line =
-      let same : after ≡ out = replied.1.1 ∙ (exam-refused bytes out (λ e. h (replied.0 ∙ e))).1 in
-      let is = respond-line bytes (length out) (λ e. h (replied.0 ∙ e)) (λ e. g (replied.0 ∙ e)) in
+  line_replied h g number₂ size₂ last line =
+      let same : after ≡ out = replied.1.1 ∙ (exam_refused bytes out (λ e. h (replied.0 ∙ e))).1 in
+      let is = respond_line bytes (length out) (λ e. h (replied.0 ∙ e)) (λ e. g (replied.0 ∙ e)) in
       rw (is, ← replied.0) (rw same at line)

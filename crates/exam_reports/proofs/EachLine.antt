@@ -9,17 +9,17 @@ use Rattle.exam_text.specs.Sheet.{Line}
 use Rattle.exam_reports.specs.SheetReports.{each_line}
 
 -- the first piece, and the others
-joined-first : (m : ℕ) (f : ℕ → List ℕ) → joined (suc m) f ≡ f 0 ++ joined m (λ i. f (suc i))
+joined_first : (m : ℕ) (f : ℕ → List ℕ) → joined (suc m) f ≡ f 0 ++ joined m (λ i. f (suc i))
 unfolding joined
-joined-first zero f = sym (append-nil (f 0))
-joined-first (suc m) f = ap (λ (l : List ℕ). l ++ f (suc m)) (joined-first m f) ∙ append_assoc (f 0) (joined m (λ i. f (suc i))) (f (suc m))
+joined_first zero f = sym (append-nil (f 0))
+joined_first (suc m) f = ap (λ (l : List ℕ). l ++ f (suc m)) (joined_first m f) ∙ append_assoc (f 0) (joined m (λ i. f (suc i))) (f (suc m))
 
-pub each-joined : (f : Line → List ℕ) (ls : List Line) (d : Line) → each_line f ls ≡ joined (length ls) (λ i. f (get_or ls i d))
+pub each_joined : (f : Line → List ℕ) (ls : List Line) (d : Line) → each_line f ls ≡ joined (length ls) (λ i. f (get_or ls i d))
 unfolding each_line joined
-each-joined f [] d = refl
-each-joined f (l ∷ ls) d = ap (λ (bytes : List ℕ). f l ++ bytes) (each-joined f ls d) ∙ sym (joined-first (length ls) (λ i. f (get_or (l ∷ ls) i d)))
+each_joined f [] d = refl
+each_joined f (l ∷ ls) d = ap (λ (bytes : List ℕ). f l ++ bytes) (each_joined f ls d) ∙ sym (joined_first (length ls) (λ i. f (get_or (l ∷ ls) i d)))
 
 -- pieces of one length
-pub each-length : (w : ℕ) (f : Line → List ℕ) (ls : List Line) (d : Line) → ((i : ℕ) → i < length ls → length (f (get_or ls i d)) ≡ w)
+pub each_length : (w : ℕ) (f : Line → List ℕ) (ls : List Line) (d : Line) → ((i : ℕ) → i < length ls → length (f (get_or ls i d)) ≡ w)
     → length (each_line f ls) ≡ w * length ls
-each-length w f ls d sized = ap length (each-joined f ls d) ∙ joined_length w (λ i. f (get_or ls i d)) (length ls) sized
+each_length w f ls d sized = ap length (each_joined f ls d) ∙ joined_length w (λ i. f (get_or ls i d)) (length ls) sized

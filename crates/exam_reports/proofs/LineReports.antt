@@ -7,17 +7,17 @@ use mathlib.Core.Bool.{true}
 use mathlib.Core.List.{List}
 use lib.ListN.{length, get_or, drop}
 use Rattle.places.specs.Places.{put_at, overlay}
-use Rattle.places.proofs.Places.{put_at-nil, put_at-length, put_at-overlay}
+use Rattle.places.proofs.Places.{put_at_nil, put_at_length, put_at_overlay}
 use Rattle.expander.specs.Expander.{is_expander}
 use Rattle.point.specs.PublicShare.{joined, public_share_length}
 use Rattle.point.proofs.Joined.{joined_length}
 use Rattle.exam_text.specs.Sheet.{Line}
 use Rattle.exam_text.specs.Reader.{are_lines, lines_of, no_line}
-use Rattle.exam_text.proofs.SheetTests.{lines-count}
-use Rattle.exam_text.proofs.Placed.{line-placed}
+use Rattle.exam_text.proofs.SheetTests.{lines_count}
+use Rattle.exam_text.proofs.Placed.{line_placed}
 use Rattle.exam_reports.specs.SheetReports.{each_line, public_share_for}
-use Rattle.exam_reports.proofs.EachLine.{each-joined}
-use Rattle.exam_reports.proofs.LineKeys.{key-size, nth_line, sound-at}
+use Rattle.exam_reports.proofs.EachLine.{each_joined}
+use Rattle.exam_reports.proofs.LineKeys.{key_size, nth_line, sound_at}
 use Rattle.exam_reports.proofs.PiecesPut.{joined_same, put_next}
 
 -- Where the reports are written: both servers' root seeds, and the public shares.
@@ -36,8 +36,8 @@ pub record Room (n C : ℕ) (old : Areas) : Type 0 where
   pub shares : public_share_length n * C ≤ length old.shares
 
 -- Room for some lines is room for fewer.
-pub room-less : (n i C : ℕ) (old : Areas) → i ≤ C → Room n C old → Room n i old
-room-less n i C old h room = record {
+pub room_less : (n i C : ℕ) (old : Areas) → i ≤ C → Room n C old → Room n i old
+room_less n i C old h room = record {
   seeds0 = omega (arith, room.seeds0);
   seeds1 = omega (arith, room.seeds1);
   shares = let less : public_share_length n * i ≤ public_share_length n * C = mul-le-mul_left (public_share_length n) h in le_trans less room.shares;
@@ -52,18 +52,18 @@ pub record Written (n expander : ℕ) (text : List ℕ) (at i : ℕ) (old new : 
 pub written_none : (n expander : ℕ) (text : List ℕ) (at : ℕ) (old : Areas) → Written n expander text at 0 old old
 unfolding joined
 written_none n expander text at old = record {
-  seeds0 = sym (put_at-nil old.seeds0 0);
-  seeds1 = sym (put_at-nil old.seeds1 0);
-  shares = sym (put_at-nil old.shares 0);
+  seeds0 = sym (put_at_nil old.seeds0 0);
+  seeds1 = sym (put_at_nil old.seeds1 0);
+  shares = sym (put_at_nil old.shares 0);
 }
 
 -- The areas keep their lengths.
-pub written-lengths : (n expander : ℕ) (text : List ℕ) (at i : ℕ) (old new : Areas) → Written n expander text at i old new
+pub written_lengths : (n expander : ℕ) (text : List ℕ) (at i : ℕ) (old new : Areas) → Written n expander text at i old new
     → (length new.seeds0 ≡ length old.seeds0) × (length new.seeds1 ≡ length old.seeds1) × (length new.shares ≡ length old.shares)
-written-lengths n expander text at i old new written = (
-  ap length written.seeds0 ∙ put_at-length old.seeds0 0 _,
-  ap length written.seeds1 ∙ put_at-length old.seeds1 0 _,
-  ap length written.shares ∙ put_at-length old.shares 0 _,
+written_lengths n expander text at i old new written = (
+  ap length written.seeds0 ∙ put_at_length old.seeds0 0 _,
+  ap length written.seeds1 ∙ put_at_length old.seeds1 0 _,
+  ap length written.shares ∙ put_at_length old.shares 0 _,
 )
 
 -- The text has C lines from place `at` on, for strings of 1 to 32 bits, and there is room for their reports.
@@ -78,25 +78,25 @@ module _ (n expander : ℕ) (from : 1 ≤ n) (to : n ≤ 32) (known : is_expande
   abbrev key : ℕ → List ℕ
   key j = public_share_for n expander (nth_line text at n j)
 
-  first-size : (j : ℕ) → j < C → length (first j) ≡ 16
-  first-size j l = (sound-at text at n C j l to laid).sized0.size
+  first_size : (j : ℕ) → j < C → length (first j) ≡ 16
+  first_size j l = (sound_at text at n C j l to laid).sized0.size
 
-  second-size : (j : ℕ) → j < C → length (second j) ≡ 16
-  second-size j l = (sound-at text at n C j l to laid).sized1.size
+  second_size : (j : ℕ) → j < C → length (second j) ≡ 16
+  second_size j l = (sound_at text at n C j l to laid).sized1.size
 
-  key-length : (j : ℕ) → j < C → length (key j) ≡ public_share_length n
-  key-length j l = key-size n expander from to known (nth_line text at n j) (sound-at text at n C j l to laid)
+  key_length : (j : ℕ) → j < C → length (key j) ≡ public_share_length n
+  key_length j l = key_size n expander from to known (nth_line text at n j) (sound_at text at n C j l to laid)
 
   -- One line more.
-  pub written-more : (i : ℕ) → i < C → (new : Areas) → Written n expander text at i old new → (next : Areas)
+  pub written_more : (i : ℕ) → i < C → (new : Areas) → Written n expander text at i old new → (next : Areas)
       → next.seeds0 ≡ put_at new.seeds0 (16 * i) (first i) → next.seeds1 ≡ put_at new.seeds1 (16 * i) (second i)
       → next.shares ≡ put_at new.shares (public_share_length n * i) (key i) → Written n expander text at (suc i) old next
-  written-more i h new written next put0 put1 put =
-      let fits = room-less n (suc i) C old h room in
+  written_more i h new written next put0 put1 put =
+      let fits = room_less n (suc i) C old h room in
       record {
-        seeds0 = put_next 16 i first _ _ _ (λ j l. first-size j (omega arith)) fits.seeds0 written.seeds0 put0;
-        seeds1 = put_next 16 i second _ _ _ (λ j l. second-size j (omega arith)) fits.seeds1 written.seeds1 put1;
-        shares = put_next (public_share_length n) i key _ _ _ (λ j l. key-length j (omega arith)) fits.shares written.shares put;
+        seeds0 = put_next 16 i first _ _ _ (λ j l. first_size j (omega arith)) fits.seeds0 written.seeds0 put0;
+        seeds1 = put_next 16 i second _ _ _ (λ j l. second_size j (omega arith)) fits.seeds1 written.seeds1 put1;
+        shares = put_next (public_share_length n) i key _ _ _ (λ j l. key_length j (omega arith)) fits.shares written.shares put;
       }
 
   -- What was written for all lines.
@@ -106,24 +106,24 @@ module _ (n expander : ℕ) (from : 1 ≤ n) (to : n ≤ 32) (known : is_expande
 
     each : (f : Line → List ℕ) → joined C (λ j. f (nth_line text at n j)) ≡ each_line f lines
     each f =
-        joined_same C (λ j. f (nth_line text at n j)) (λ j. f (get_or lines j no_line)) (λ j l. ap f (sym (line-placed text at n C j l to laid no_line)))
-        ∙ ap (λ (m : ℕ). joined m (λ j. f (get_or lines j no_line))) (sym (lines-count n C (drop at text)))
-        ∙ sym (each-joined f lines no_line)
+        joined_same C (λ j. f (nth_line text at n j)) (λ j. f (get_or lines j no_line)) (λ j l. ap f (sym (line_placed text at n C j l to laid no_line)))
+        ∙ ap (λ (m : ℕ). joined m (λ j. f (get_or lines j no_line))) (sym (lines_count n C (drop at text)))
+        ∙ sym (each_joined f lines no_line)
 
-    all-put : (w : ℕ) (f : Line → List ℕ) (area area' : List ℕ) → ((j : ℕ) → j < C → length (f (nth_line text at n j)) ≡ w) → w * C ≤ length area
+    all_put : (w : ℕ) (f : Line → List ℕ) (area area' : List ℕ) → ((j : ℕ) → j < C → length (f (nth_line text at n j)) ≡ w) → w * C ≤ length area
         → area' ≡ put_at area 0 (joined C (λ j. f (nth_line text at n j))) → area' ≡ overlay (each_line f lines) area
-    all-put w f area area' sized fits is =
+    all_put w f area area' sized fits is =
         let all = joined C (λ j. f (nth_line text at n j)) in
         is
-        ∙ put_at-overlay area all (omega (arith, joined_length w (λ j. f (nth_line text at n j)) C sized, fits))
+        ∙ put_at_overlay area all (omega (arith, joined_length w (λ j. f (nth_line text at n j)) C sized, fits))
         ∙ ap (λ (bytes : List ℕ). overlay bytes area) (each f)
 
     pub written_all : (new.seeds0 ≡ overlay (each_line (λ l. l.seed0) lines) old.seeds0)
         × ((new.seeds1 ≡ overlay (each_line (λ l. l.seed1) lines) old.seeds1) × (new.shares ≡ overlay (each_line (public_share_for n expander) lines) old.shares))
     written_all = (
-      all-put 16 (λ l. l.seed0) old.seeds0 new.seeds0 first-size room.seeds0 written.seeds0,
+      all_put 16 (λ l. l.seed0) old.seeds0 new.seeds0 first_size room.seeds0 written.seeds0,
       (
-        all-put 16 (λ l. l.seed1) old.seeds1 new.seeds1 second-size room.seeds1 written.seeds1,
-        all-put (public_share_length n) (public_share_for n expander) old.shares new.shares key-length room.shares written.shares,
+        all_put 16 (λ l. l.seed1) old.seeds1 new.seeds1 second_size room.seeds1 written.seeds1,
+        all_put (public_share_length n) (public_share_for n expander) old.shares new.shares key_length room.shares written.shares,
       ),
     )

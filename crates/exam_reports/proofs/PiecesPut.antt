@@ -7,7 +7,7 @@ use mathlib.Core.List.{List, [], ◌++◌, append_assoc, append-nil}
 use lib.ListN.{length, take, drop, length-drop, drop_of_length-le}
 use lib.Seq.{drop-drop, length-take-le}
 use Rattle.places.specs.Places.{put_at, overlay}
-use Rattle.places.proofs.Places.{put_at-inside, put_at-more}
+use Rattle.places.proofs.Places.{put_at_inside, put_at_more}
 use Rattle.point.specs.PublicShare.{joined}
 use Rattle.point.proofs.Joined.{joined_length}
 
@@ -26,14 +26,14 @@ put_next w i f area₀ area area' sized room before after =
     let fits : 0 + length (joined i f) + length (f i) ≤ length area₀ = omega (arith, done, sized i (omega arith), mul-suc w i, room) in
     after
     ∙ ap₂ (λ (a : List ℕ) (k : ℕ). put_at a k (f i)) before (sym done ∙ sym (zero-add (length (joined i f))))
-    ∙ put_at-more area₀ 0 (joined i f) (f i) fits
+    ∙ put_at_more area₀ 0 (joined i f) (f i) fits
 
 -- what is written into the whole of a part, which is lent from place `at` on for w places, is put there
-pub part-put : (l : List ℕ) (at w k : ℕ) (written : ℕ → List ℕ) (part : List ℕ) → k ≡ w → at + w ≤ length l → length (written w) ≡ w
+pub part_put : (l : List ℕ) (at w k : ℕ) (written : ℕ → List ℕ) (part : List ℕ) → k ≡ w → at + w ≤ length l → length (written w) ≡ w
     → part ≡ overlay (written (length (take (at + k - at) (drop at l)))) (take (at + k - at) (drop at l))
     → take at l ++ (part ++ drop (at + k - at) (drop at l)) ≡ put_at l at (written w)
 unfolding overlay
-part-put l at w k written part e room size is =
+part_put l at w k written part e room size is =
     let here : at + k - at ≡ w = omega arith in
     let sized : length (take w (drop at l)) ≡ w = length-take-le w (drop at l) (omega (arith, length-drop at l)) in
     let whole : drop (length (written w)) (take w (drop at l)) ≡ [] = drop_of_length-le (take w (drop at l)) {i = length (written w)} (omega arith) in
@@ -47,4 +47,4 @@ part-put l at w k written part e room size is =
     let rest : drop (at + k - at) (drop at l) ≡ drop (at + length (written w)) l = drop-drop (at + k - at) at l ∙ ap (λ (m : ℕ). drop m l) after in
     ap₂ (λ (p r : List ℕ). take at l ++ (p ++ r)) put rest
     ∙ sym (append_assoc (take at l) (written w) (drop (at + length (written w)) l))
-    ∙ sym (put_at-inside l at (written w) (omega arith))
+    ∙ sym (put_at_inside l at (written w) (omega arith))

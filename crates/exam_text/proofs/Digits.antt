@@ -13,53 +13,53 @@ use Rattle.exam_text.specs.Reader.{is_decimal, leading, number_after}
 -- ---- the digits at a place
 
 module _ (t : List ℕ) (i : ℕ) where
-  pub leading-past : length t ≤ i → leading (drop i t) ≡ []
+  pub leading_past : length t ≤ i → leading (drop i t) ≡ []
   unfolding leading
-  leading-past h = rw (drop_of_length-le t h)
+  leading_past h = rw (drop_of_length-le t h)
 
   module _ (h : i < length t) where
     leading_step : leading (drop i t) ≡ cond (is_decimal (get_or t i 0)) (get_or t i 0 ∷ leading (drop (suc i) t)) []
     unfolding leading
     leading_step = rw (drop-cons t i 0 h)
 
-    pub leading-yes : is_decimal (get_or t i 0) ≡ true → leading (drop i t) ≡ get_or t i 0 ∷ leading (drop (suc i) t)
-    leading-yes e = leading_step ∙ rw e
+    pub leading_yes : is_decimal (get_or t i 0) ≡ true → leading (drop i t) ≡ get_or t i 0 ∷ leading (drop (suc i) t)
+    leading_yes e = leading_step ∙ rw e
 
-    pub leading-no : is_decimal (get_or t i 0) ≡ false → leading (drop i t) ≡ []
-    leading-no e = leading_step ∙ rw e
+    pub leading_no : is_decimal (get_or t i 0) ≡ false → leading (drop i t) ≡ []
+    leading_no e = leading_step ∙ rw e
 
   module _ (h : 0 < length (leading (drop i t))) where
     -- where there are digits, there is a character
-    pub leading-within : i < length t
-    leading-within = elim (dec_lt i (length t)) [
+    pub leading_within : i < length t
+    leading_within = elim (dec_lt i (length t)) [
       | yes a ↦ a
-      | no a ↦ absurd (omega (arith, rw (leading-past (omega arith)) at h))
+      | no a ↦ absurd (omega (arith, rw (leading_past (omega arith)) at h))
     ]
 
     -- and it is one
-    pub leading-digit : is_decimal (get_or t i 0) ≡ true
-    leading-digit = go (is_decimal (get_or t i 0)) refl
+    pub leading_digit : is_decimal (get_or t i 0) ≡ true
+    leading_digit = go (is_decimal (get_or t i 0)) refl
       where
         go : (b : Bool) → is_decimal (get_or t i 0) ≡ b → b ≡ true
         go true e = refl
-        go false e = absurd (omega (arith, rw (leading-no leading-within e) at h))
+        go false e = absurd (omega (arith, rw (leading_no leading_within e) at h))
 
-    pub leading-cons : leading (drop i t) ≡ get_or t i 0 ∷ leading (drop (suc i) t)
-    leading-cons = leading-yes leading-within leading-digit
+    pub leading_cons : leading (drop i t) ≡ get_or t i 0 ∷ leading (drop (suc i) t)
+    leading_cons = leading_yes leading_within leading_digit
 
     pub number_step : (x : ℕ) → number_after x (leading (drop i t)) ≡ number_after (10 * x + (get_or t i 0 - 48)) (leading (drop (suc i) t))
     unfolding number_after
-    number_step x = rw leading-cons
+    number_step x = rw leading_cons
 
-pub number-none : (x : ℕ) (ds : List ℕ) → length ds ≡ 0 → number_after x ds ≡ x
+pub number_none : (x : ℕ) (ds : List ℕ) → length ds ≡ 0 → number_after x ds ≡ x
 unfolding number_after
-number-none x [] e = refl
-number-none x (d ∷ ds) e = absurd (omega arith)
+number_none x [] e = refl
+number_none x (d ∷ ds) e = absurd (omega arith)
 
 -- ---- how large the number is
 
 pub digits_more : (x v k : ℕ) → x < 10 ^ k → v ≤ 9 → 10 * x + v < 10 ^ suc k
 digits_more x v k a b = omega (arith, pow-succ' 10 k)
 
-pub five-digits : (k : ℕ) → k ≤ 5 → 10 ^ k ≤ 100000
-five-digits k h = pow-le-pow_right {n = 10} (omega arith) h
+pub five_digits : (k : ℕ) → k ≤ 5 → 10 ^ k ≤ 100000
+five_digits k h = pow-le-pow_right {n = 10} (omega arith) h

@@ -23,26 +23,26 @@ reads = tt
 
 -- ---- numbers and bytes
 
-pub decimal-0 : decimal 0 ≡ 48 ∷ []
+pub decimal_0 : decimal 0 ≡ 48 ∷ []
 unfolding writes
-decimal-0 = refl
+decimal_0 = refl
 
-pub decimal-10 : decimal 10 ≡ 49 ∷ 48 ∷ []
+pub decimal_10 : decimal 10 ≡ 49 ∷ 48 ∷ []
 unfolding writes
-decimal-10 = refl
+decimal_10 = refl
 
-pub decimal-65535 : decimal 65535 ≡ 54 ∷ 53 ∷ 53 ∷ 51 ∷ 53 ∷ []
+pub decimal_65535 : decimal 65535 ≡ 54 ∷ 53 ∷ 53 ∷ 51 ∷ 53 ∷ []
 unfolding writes
-decimal-65535 = refl
+decimal_65535 = refl
 
 -- the largest number of 64 bits
-pub decimal-largest : decimal 18446744073709551615 ≡ 49 ∷ 56 ∷ 52 ∷ 52 ∷ 54 ∷ 55 ∷ 52 ∷ 52 ∷ 48 ∷ 55 ∷ 51 ∷ 55 ∷ 48 ∷ 57 ∷ 53 ∷ 53 ∷ 49 ∷ 54 ∷ 49 ∷ 53 ∷ []
+pub decimal_largest : decimal 18446744073709551615 ≡ 49 ∷ 56 ∷ 52 ∷ 52 ∷ 54 ∷ 55 ∷ 52 ∷ 52 ∷ 48 ∷ 55 ∷ 51 ∷ 55 ∷ 48 ∷ 57 ∷ 53 ∷ 53 ∷ 49 ∷ 54 ∷ 49 ∷ 53 ∷ []
 unfolding writes
-decimal-largest = refl
+decimal_largest = refl
 
-pub hexadecimal-bytes : hexadecimal (0 ∷ 9 ∷ 10 ∷ 171 ∷ 255 ∷ []) ≡ 48 ∷ 48 ∷ 48 ∷ 57 ∷ 48 ∷ 97 ∷ 97 ∷ 98 ∷ 102 ∷ 102 ∷ []
+pub hexadecimal_bytes : hexadecimal (0 ∷ 9 ∷ 10 ∷ 171 ∷ 255 ∷ []) ≡ 48 ∷ 48 ∷ 48 ∷ 57 ∷ 48 ∷ 97 ∷ 97 ∷ 98 ∷ 102 ∷ 102 ∷ []
 unfolding writes
-hexadecimal-bytes = refl
+hexadecimal_bytes = refl
 
 -- ---- sheet D
 
@@ -83,66 +83,66 @@ lines_d = (48 ∷ 49 ∷ seeds_text) ++ (48 ∷ 49 ∷ seeds_text) ++ (49 ∷ 49
 abbrev text_d : List ℕ
 text_d = 50 ∷ 32 ∷ 50 ∷ 32 ∷ 51 ∷ 32 ∷ 50 ∷ 10 ∷ lines_d
 
-pub D-printed : text (sheet (some 2)) ≡ text_d
+pub d_printed : text (sheet (some 2)) ≡ text_d
 unfolding writes
-D-printed = refl
+d_printed = refl
 
-pub D-read : read_sheet text_d ≡ some (sheet (some 2))
+pub d_read : read_sheet text_d ≡ some (sheet (some 2))
 unfolding reads
-D-read = refl
+d_read = refl
 
 -- without ` 2` the expander is missing
-pub D-short : read_sheet (50 ∷ 32 ∷ 50 ∷ 32 ∷ 51 ∷ 10 ∷ lines_d) ≡ some (sheet none)
+pub d_short : read_sheet (50 ∷ 32 ∷ 50 ∷ 32 ∷ 51 ∷ 10 ∷ lines_d) ≡ some (sheet none)
 unfolding reads
-D-short = refl
+d_short = refl
 
 -- ---- texts that are refused
 
 -- `02 2 3 2`
-pub leading-zero : is_sheet (48 ∷ 50 ∷ 32 ∷ 50 ∷ 32 ∷ 51 ∷ 32 ∷ 50 ∷ 10 ∷ lines_d) ≡ false
+pub leading_zero : is_sheet (48 ∷ 50 ∷ 32 ∷ 50 ∷ 32 ∷ 51 ∷ 32 ∷ 50 ∷ 10 ∷ lines_d) ≡ false
 unfolding reads
-leading-zero = refl
+leading_zero = refl
 
 -- `2  2 3 2`
-pub two-spaces : is_sheet (50 ∷ 32 ∷ 32 ∷ 50 ∷ 32 ∷ 51 ∷ 32 ∷ 50 ∷ 10 ∷ lines_d) ≡ false
+pub two_spaces : is_sheet (50 ∷ 32 ∷ 32 ∷ 50 ∷ 32 ∷ 51 ∷ 32 ∷ 50 ∷ 10 ∷ lines_d) ≡ false
 unfolding reads
-two-spaces = refl
+two_spaces = refl
 
-pub no-last-newline : is_sheet (take (length text_d - 1) text_d) ≡ false
+pub no_last_newline : is_sheet (take (length text_d - 1) text_d) ≡ false
 unfolding reads
-no-last-newline = refl
+no_last_newline = refl
 
-pub byte-behind : is_sheet (text_d ++ (10 ∷ [])) ≡ false
+pub byte_behind : is_sheet (text_d ++ (10 ∷ [])) ≡ false
 unfolding reads
-byte-behind = refl
+byte_behind = refl
 
 pub no_text : is_sheet [] ≡ false
 unfolding reads
 no_text = refl
 
--- a sheet of one line passes, and with an upper-case `A` for the first digit of its seed not
-pub upper-case : (is_sheet (49 ∷ 32 ∷ 49 ∷ 32 ∷ 49 ∷ 10 ∷ 49 ∷ seeds_text) ≡ true) × (is_sheet (49 ∷ 32 ∷ 49 ∷ 32 ∷ 49 ∷ 10 ∷ 49 ∷ 32 ∷ 65 ∷ drop 2 seeds_text) ≡ false)
+-- a sheet of one line passes, and with an upper_case `A` for the first digit of its seed not
+pub upper_case : (is_sheet (49 ∷ 32 ∷ 49 ∷ 32 ∷ 49 ∷ 10 ∷ 49 ∷ seeds_text) ≡ true) × (is_sheet (49 ∷ 32 ∷ 49 ∷ 32 ∷ 49 ∷ 10 ∷ 49 ∷ 32 ∷ 65 ∷ drop 2 seeds_text) ≡ false)
 unfolding reads
-upper-case = (refl, refl)
+upper_case = (refl, refl)
 
 -- five digits pass, `99999`, and six not, `100000`
-pub six-digits : (is_sheet (49 ∷ 32 ∷ 57 ∷ 57 ∷ 57 ∷ 57 ∷ 57 ∷ 32 ∷ 48 ∷ 10 ∷ []) ≡ true) × (is_sheet (49 ∷ 32 ∷ 49 ∷ 48 ∷ 48 ∷ 48 ∷ 48 ∷ 48 ∷ 32 ∷ 48 ∷ 10 ∷ []) ≡ false)
+pub six_digits : (is_sheet (49 ∷ 32 ∷ 57 ∷ 57 ∷ 57 ∷ 57 ∷ 57 ∷ 32 ∷ 48 ∷ 10 ∷ []) ≡ true) × (is_sheet (49 ∷ 32 ∷ 49 ∷ 48 ∷ 48 ∷ 48 ∷ 48 ∷ 48 ∷ 32 ∷ 48 ∷ 10 ∷ []) ≡ false)
 unfolding reads
-six-digits = (refl, refl)
+six_digits = (refl, refl)
 
 -- strings of 32 bits pass, and of 33 not
-pub long-strings : (is_sheet (51 ∷ 50 ∷ 32 ∷ 49 ∷ 32 ∷ 48 ∷ 10 ∷ []) ≡ true) × (is_sheet (51 ∷ 51 ∷ 32 ∷ 49 ∷ 32 ∷ 48 ∷ 10 ∷ []) ≡ false)
+pub long_strings : (is_sheet (51 ∷ 50 ∷ 32 ∷ 49 ∷ 32 ∷ 48 ∷ 10 ∷ []) ≡ true) × (is_sheet (51 ∷ 51 ∷ 32 ∷ 49 ∷ 32 ∷ 48 ∷ 10 ∷ []) ≡ false)
 unfolding reads
-long-strings = (refl, refl)
+long_strings = (refl, refl)
 
 -- m lines of strings of no bits
 abbrev empties : ℕ → List ℕ
 empties m = lines_text (replicate m (line []))
 
 -- 32 lines pass, and 33 not
-pub many-lines : (is_sheet (48 ∷ 32 ∷ 49 ∷ 32 ∷ 51 ∷ 50 ∷ 10 ∷ empties 32) ≡ true) × (is_sheet (48 ∷ 32 ∷ 49 ∷ 32 ∷ 51 ∷ 51 ∷ 10 ∷ empties 33) ≡ false)
+pub many_lines : (is_sheet (48 ∷ 32 ∷ 49 ∷ 32 ∷ 51 ∷ 50 ∷ 10 ∷ empties 32) ≡ true) × (is_sheet (48 ∷ 32 ∷ 49 ∷ 32 ∷ 51 ∷ 51 ∷ 10 ∷ empties 33) ≡ false)
 unfolding writes reads
-many-lines = (refl, refl)
+many_lines = (refl, refl)
 
 -- ---- a key line
 
@@ -154,14 +154,14 @@ key_a = record {
   line = record { string = true ∷ []; seed0 = replicate 16 0; seed1 = 1 ∷ replicate 15 0 };
 }
 
-pub key-line-A : key_line_text key_a
+pub key_line_a : key_line_text key_a
     ≡ 49 ∷ 32 ∷ 50 ∷ 32 ∷ 49 ∷ 32 ∷ 48 ∷ 48 ∷ 48 ∷ 48 ∷ 48 ∷ 48 ∷ 48 ∷ 48 ∷ 48 ∷ 48 ∷ 48 ∷ 48 ∷ 48 ∷ 48 ∷ 48 ∷ 48 ∷ 48 ∷ 48 ∷ 48 ∷ 48 ∷ 48 ∷ 48 ∷
     48 ∷ 48 ∷ 48 ∷ 48 ∷ 48 ∷ 48 ∷ 48 ∷ 48 ∷ 48 ∷ 48 ∷ 32 ∷ 48 ∷ 49 ∷ 48 ∷ 48 ∷ 48 ∷ 48 ∷ 48 ∷ 48 ∷ 48 ∷ 48 ∷ 48 ∷ 48 ∷ 48 ∷ 48 ∷ 48 ∷ 48 ∷ 48 ∷
     48 ∷ 48 ∷ 48 ∷ 48 ∷ 48 ∷ 48 ∷ 48 ∷ 48 ∷ 48 ∷ 48 ∷ 48 ∷ 48 ∷ 48 ∷ 48 ∷ 48 ∷ 10 ∷ []
 unfolding writes key_line_text
-key-line-A = refl
+key_line_a = refl
 
 -- and read from its text
-pub key-line-A-read : read_key_line (key_line_text key_a) ≡ some key_a
+pub key_line_a_read : read_key_line (key_line_text key_a) ≡ some key_a
 unfolding writes reads key_line_text is_key_line key_line_of read_key_line
-key-line-A-read = refl
+key_line_a_read = refl

@@ -13,8 +13,8 @@ use Rattle.exam_text.specs.Reader.{leading, is_number, number_then, second, thir
 use Rattle.exam_text.proofs.Reading.{FieldRead, EndSays, EndRead, FirstLineSays, FirstLineRead}
 
 -- a number that a newline follows is not one that a space follows
-newline-ends : (cs : List ℕ) → number_then newline cs ≡ true → number_then space cs ≡ false
-newline-ends cs e =
+newline_ends : (cs : List ℕ) → number_then newline cs ≡ true → number_then space cs ≡ false
+newline_ends cs e =
     let a : is_number (leading cs) ≡ true = and_left (is_number (leading cs)) (eqb (get_or cs (length (leading cs)) 0) newline) e in
     let b : get_or cs (length (leading cs)) 0 ≡ newline = eqb-true _ _ (and_right (is_number (leading cs)) (eqb (get_or cs (length (leading cs)) 0) newline) e) in
     rw (a, ne_eqb (get_or cs (length (leading cs)) 0) space (λ f. omega arith))
@@ -22,16 +22,16 @@ newline-ends cs e =
 -- ---- its end
 
 module _ (t : List ℕ) (at : ℕ) (b₁ : Bool) (x₁ h₁ : ℕ) (f₁ : FieldRead t at newline b₁ x₁ h₁) where
-  pub end-without : b₁ ≡ true → EndRead t at true x₁ 2 h₁
-  end-without e =
+  pub end_without : b₁ ≡ true → EndRead t at true x₁ 2 h₁
+  end_without e =
       let n : number_then newline (drop at t) ≡ true = sym f₁.laid ∙ e in
       let s = f₁.says e in
       record {
         laid = rw n;
         says = λ q. record {
-          count-read = s.number_read;
-          expander-read = rw (newline-ends (drop at t) n);
-          rest = rw (newline-ends (drop at t) n) s.rest;
+          count_is_read = s.number_read;
+          expander_read = rw (newline_ends (drop at t) n);
+          rest = rw (newline_ends (drop at t) n) s.rest;
         };
       }
 
@@ -46,8 +46,8 @@ module _ (t : List ℕ) (at : ℕ) (b₁ : Bool) (x₁ h₁ : ℕ) (f₁ : Field
         record {
           laid = f₃.laid ∙ rw (sym f₁.laid ∙ e₁, g, s.rest.same);
           says = λ q. record {
-            count-read = s.number_read;
-            expander-read = (f₃.says q).number_read ∙ rw (g, s.rest.same);
+            count_is_read = s.number_read;
+            expander_read = (f₃.says q).number_read ∙ rw (g, s.rest.same);
             rest = rw (g, ← s.rest.same) (f₃.says q).rest;
           };
         }
@@ -58,39 +58,39 @@ pub no_line_lem : (t : List ℕ) (b : Bool) (n u count e here : ℕ) → is_firs
 no_line_lem t b n u count e here f g = record { laid = g ∙ sym f; says = λ q. absurd (false≢true (sym g ∙ q)) }
 
 module _ (t : List ℕ) (b₁ : Bool) (x₁ h₁ : ℕ) (f₁ : FieldRead t 0 space b₁ x₁ h₁) where
-  pub no-first : b₁ ≡ false → is_first_line t ≡ false
+  pub no_first : b₁ ≡ false → is_first_line t ≡ false
   unfolding is_first_line
-  no-first e = rw (sym f₁.laid ∙ e)
+  no_first e = rw (sym f₁.laid ∙ e)
 
   module _ (e₁ : b₁ ≡ true) (b₂ : Bool) (x₂ h₂ : ℕ) (f₂ : FieldRead t h₁ space b₂ x₂ h₂) where
     at_second : drop h₁ t ≡ second t
     at_second = (f₁.says e₁).rest.same
 
-    second-laid : b₂ ≡ number_then space (second t)
-    second-laid = f₂.laid ∙ rw at_second
+    second_laid : b₂ ≡ number_then space (second t)
+    second_laid = f₂.laid ∙ rw at_second
 
     pub no_second : b₂ ≡ false → is_first_line t ≡ false
     unfolding is_first_line
-    no_second e = rw (sym f₁.laid ∙ e₁, sym second-laid ∙ e)
+    no_second e = rw (sym f₁.laid ∙ e₁, sym second_laid ∙ e)
 
     module _ (e₂ : b₂ ≡ true) (b₃ : Bool) (count x₃ h₃ : ℕ) (g : EndRead t h₂ b₃ count x₃ h₃) where
-      at-third : drop h₂ t ≡ third t
-      at-third = (f₂.says e₂).rest.same ∙ rw at_second
+      at_third : drop h₂ t ≡ third t
+      at_third = (f₂.says e₂).rest.same ∙ rw at_second
 
-      line-laid : b₃ ≡ is_first_line t
+      line_laid : b₃ ≡ is_first_line t
       unfolding is_first_line
-      line-laid = g.laid ∙ rw (at-third, sym f₁.laid ∙ e₁, sym second-laid ∙ e₂)
+      line_laid = g.laid ∙ rw (at_third, sym f₁.laid ∙ e₁, sym second_laid ∙ e₂)
 
-      line-says : EndSays t (drop h₂ t) count x₃ h₃ → FirstLineSays t x₁ x₂ count x₃ h₃
+      line_says : EndSays t (drop h₂ t) count x₃ h₃ → FirstLineSays t x₁ x₂ count x₃ h₃
       unfolding expander_of after_first_line
-      line-says s =
+      line_says s =
           record {
-            n-read = (f₁.says e₁).number_read;
-            t-read = (f₂.says e₂).number_read ∙ rw at_second;
-            count-read = s.count-read ∙ rw at-third;
-            expander-read = s.expander-read ∙ rw at-third;
-            rest = rw (← at-third) s.rest;
+            n_read = (f₁.says e₁).number_read;
+            t_read = (f₂.says e₂).number_read ∙ rw at_second;
+            count_is_read = s.count_is_read ∙ rw at_third;
+            expander_read = s.expander_read ∙ rw at_third;
+            rest = rw (← at_third) s.rest;
           }
 
       pub line_read : FirstLineRead t b₃ x₁ x₂ count x₃ h₃
-      line_read = record { laid = line-laid; says = λ q. line-says (g.says q) }
+      line_read = record { laid = line_laid; says = λ q. line_says (g.says q) }

@@ -15,9 +15,9 @@ use Rattle.exam_text.specs.Characters.{space, decimal}
 use Rattle.exam_text.specs.Sheet.{line_text}
 use Rattle.exam_text.specs.Reader.{number_then, first_number, second, third, line_length, is_line, are_lines}
 use Rattle.exam_text.specs.KeyLine.{KeyLine, key_line_text, KeyWithin, is_key_line, key_line_of, read_key_line}
-use Rattle.exam_text.proofs.NumberText.{printed-ends, printed-first, printed-behind, read_below, read-text}
-use Rattle.exam_text.proofs.LineTests.{lines-length}
-use Rattle.exam_text.proofs.LinesText.{line-length, line-is-line, read-line, line_read, line-string, line-seeds}
+use Rattle.exam_text.proofs.NumberText.{printed_ends, printed_first, printed_behind, read_below, read_text_lem}
+use Rattle.exam_text.proofs.LineTests.{lines_length}
+use Rattle.exam_text.proofs.LinesText.{line_length_lem, line_is_line, read_line_lem, line_read, line_string, line_seeds}
 
 -- ---- one line
 
@@ -40,56 +40,56 @@ module _ (k : KeyLine) (w : KeyWithin k) where
   rest = decimal k.expander ++ (space ∷ line_text k.line)
 
   short : k.n < 100000
-  short = omega (arith, w.n-most)
+  short = omega (arith, w.n_most)
 
-  n-ends : number_then space (key_line_text k) ≡ true
+  n_ends : number_then space (key_line_text k) ≡ true
   unfolding key_line_text
-  n-ends = printed-ends k.n space rest short refl
+  n_ends = printed_ends k.n space rest short refl
 
-  n-read : first_number (key_line_text k) ≡ k.n
+  n_read : first_number (key_line_text k) ≡ k.n
   unfolding key_line_text
-  n-read = printed-first k.n space rest short refl
+  n_read = printed_first k.n space rest short refl
 
   at_second : second (key_line_text k) ≡ rest
   unfolding key_line_text
-  at_second = printed-behind k.n space rest short refl
+  at_second = printed_behind k.n space rest short refl
 
-  expander-ends : number_then space (second (key_line_text k)) ≡ true
-  expander-ends = rw at_second (printed-ends k.expander space (line_text k.line) w.expander-digits refl)
+  expander_ends : number_then space (second (key_line_text k)) ≡ true
+  expander_ends = rw at_second (printed_ends k.expander space (line_text k.line) w.expander_digits refl)
 
-  expander-read : first_number (second (key_line_text k)) ≡ k.expander
-  expander-read = rw at_second (printed-first k.expander space (line_text k.line) w.expander-digits refl)
+  expander_read : first_number (second (key_line_text k)) ≡ k.expander
+  expander_read = rw at_second (printed_first k.expander space (line_text k.line) w.expander_digits refl)
 
-  at-third : third (key_line_text k) ≡ line_text k.line
-  at-third = rw at_second (printed-behind k.expander space (line_text k.line) w.expander-digits refl)
+  at_third : third (key_line_text k) ≡ line_text k.line
+  at_third = rw at_second (printed_behind k.expander space (line_text k.line) w.expander_digits refl)
 
-  is-key-line : is_key_line (key_line_text k) ≡ true
+  is_key_line_lem : is_key_line (key_line_text k) ≡ true
   unfolding is_key_line
-  is-key-line =
-      rw (n-ends, expander-ends, n-read, at-third, le-leb k.n 32 w.n-most)
-      (one_line k.n (line_text k.line) (line-length k.n k.line w.n-bits w.seeds) ∙ line-is-line k.n k.line w.n-bits w.seeds)
+  is_key_line_lem =
+      rw (n_ends, expander_ends, n_read, at_third, le-leb k.n 32 w.n_most)
+      (one_line k.n (line_text k.line) (line_length_lem k.n k.line w.n_bits w.seeds) ∙ line_is_line k.n k.line w.n_bits w.seeds)
 
-  the-key-line : key_line_of (key_line_text k) ≡ k
+  the_key_line : key_line_of (key_line_text k) ≡ k
   unfolding key_line_of
-  the-key-line = rw (n-read, expander-read, at-third, read-line k.n k.line w.n-bits w.seeds)
+  the_key_line = rw (n_read, expander_read, at_third, read_line_lem k.n k.line w.n_bits w.seeds)
 
   -- The text of a line within bounds passes, and is that line's.
-  pub key-line-text : (is_key_line (key_line_text k) ≡ true) × (key_line_of (key_line_text k) ≡ k)
-  key-line-text = (is-key-line, the-key-line)
+  pub key_line_text_lem : (is_key_line (key_line_text k) ≡ true) × (key_line_of (key_line_text k) ≡ k)
+  key_line_text_lem = (is_key_line_lem, the_key_line)
 
   -- The reader reads the text of a line within bounds as that line.
-  pub read-printed : read_key_line (key_line_text k) ≡ some k
+  pub read_printed : read_key_line (key_line_text k) ≡ some k
   unfolding read_key_line
-  read-printed = rw (is-key-line, the-key-line)
+  read_printed = rw (is_key_line_lem, the_key_line)
 
 -- ---- what is read is the text of a line
 
 module _ (cs : List ℕ) (e : is_key_line cs ≡ true) where
   -- the tests that the text passed
   record Passed : Type 0 where
-    n-ends : number_then space cs ≡ true
-    expander-ends : number_then space (second cs) ≡ true
-    n-most : first_number cs ≤ 32
+    n_ends : number_then space cs ≡ true
+    expander_ends : number_then space (second cs) ≡ true
+    n_most : first_number cs ≤ 32
     line : are_lines (first_number cs) 1 (third cs) ≡ true
 
   passed : Passed
@@ -102,14 +102,14 @@ module _ (cs : List ℕ) (e : is_key_line cs ≡ true) where
       let e₃ = and_left (a && b && c) d e in
       let e₂ = and_left (a && b) c e₃ in
       record {
-        n-ends = and_left a b e₂;
-        expander-ends = and_right a b e₂;
-        n-most = leb-true (first_number cs) 32 (and_right (a && b) c e₃);
+        n_ends = and_left a b e₂;
+        expander_ends = and_right a b e₂;
+        n_most = leb-true (first_number cs) 32 (and_right (a && b) c e₃);
         line = and_right (a && b && c) d e;
       }
 
   size : length (third cs) ≡ line_length (first_number cs)
-  size = omega (arith, lines-length (first_number cs) 1 (third cs) passed.line)
+  size = omega (arith, lines_length (first_number cs) 1 (third cs) passed.line)
 
   laid : is_line (first_number cs) (third cs) ≡ true
   laid = sym (one_line (first_number cs) (third cs) size) ∙ passed.line
@@ -117,40 +117,40 @@ module _ (cs : List ℕ) (e : is_key_line cs ≡ true) where
   written : cs ≡ key_line_text (key_line_of cs)
   unfolding key_line_text key_line_of
   written =
-      read-text space cs (omega arith) passed.n-ends
+      read_text_lem space cs (omega arith) passed.n_ends
       ∙ ap (λ (r : List ℕ). decimal (first_number cs) ++ (space ∷ r))
-      (read-text space (second cs) (omega arith) passed.expander-ends
+      (read_text_lem space (second cs) (omega arith) passed.expander_ends
       ∙ ap (λ (r : List ℕ). decimal (first_number (second cs)) ++ (space ∷ r)) (sym (line_read (first_number cs) (third cs) size laid)))
 
   -- A text that passes is that of its line, which is within bounds.
-  pub key-line-within : KeyWithin (key_line_of cs) × (cs ≡ key_line_text (key_line_of cs))
+  pub key_line_within : KeyWithin (key_line_of cs) × (cs ≡ key_line_text (key_line_of cs))
   unfolding key_line_of
-  key-line-within = (
+  key_line_within = (
     record {
-      n-most = passed.n-most;
-      expander-digits = read_below space (second cs) (omega arith) passed.expander-ends;
-      n-bits = line-string (first_number cs) (third cs) size laid;
-      seeds = line-seeds (first_number cs) (third cs) size laid;
+      n_most = passed.n_most;
+      expander_digits = read_below space (second cs) (omega arith) passed.expander_ends;
+      n_bits = line_string (first_number cs) (third cs) size laid;
+      seeds = line_seeds (first_number cs) (third cs) size laid;
     },
     written,
   )
 
 -- What the reader reads is the text of the line that it answers, which is within bounds.
-printed-read : (cs : List ℕ) (k : KeyLine) → read_key_line cs ≡ some k → KeyWithin k × (cs ≡ key_line_text k)
+printed_read : (cs : List ℕ) (k : KeyLine) → read_key_line cs ≡ some k → KeyWithin k × (cs ≡ key_line_text k)
 unfolding read_key_line
-printed-read cs k e = go (is_key_line cs) refl e
+printed_read cs k e = go (is_key_line cs) refl e
   where
     go : (b : Bool) → is_key_line cs ≡ b → cond b (some (key_line_of cs)) none ≡ some k → KeyWithin k × (cs ≡ key_line_text k)
-    go true p q = let r : key_line_of cs ≡ k = cc in rw r at (key-line-within cs p)
+    go true p q = let r : key_line_of cs ≡ k = cc in rw r at (key_line_within cs p)
     go false p q = let z : ◌≡◌ {A = ℕ} 0 1 = cc in absurd (omega arith)
 
 -- A text that does not pass is that of no line within bounds.
-pub not-a-key-line : (cs : List ℕ) → is_key_line cs ≡ false → (k : KeyLine) → KeyWithin k → cs ≢ key_line_text k
-not-a-key-line cs e k w q =
-    let t : true ≡ false = sym (is-key-line k w) ∙ ap is_key_line (sym q) ∙ e in
+pub not_a_key_line : (cs : List ℕ) → is_key_line cs ≡ false → (k : KeyLine) → KeyWithin k → cs ≢ key_line_text k
+not_a_key_line cs e k w q =
+    let t : true ≡ false = sym (is_key_line_lem k w) ∙ ap is_key_line (sym q) ∙ e in
     let z : ◌≡◌ {A = ℕ} 0 1 = cc in
     omega arith
 
 -- The reader is exact: it reads a text as a line exactly if the line is within bounds and the text is its text.
-pub key-reader-exact : (cs : List ℕ) (k : KeyLine) → (read_key_line cs ≡ some k) ↔ (KeyWithin k × (cs ≡ key_line_text k))
-key-reader-exact cs k = (printed-read cs k, λ h. ap read_key_line h.1 ∙ read-printed k h.0)
+pub key_reader_exact : (cs : List ℕ) (k : KeyLine) → (read_key_line cs ≡ some k) ↔ (KeyWithin k × (cs ≡ key_line_text k))
+key_reader_exact cs k = (printed_read cs k, λ h. ap read_key_line h.1 ∙ read_printed k h.0)

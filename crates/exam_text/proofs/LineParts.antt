@@ -20,28 +20,28 @@ module _ (n : ℕ) (a b c : List ℕ) (x y z : ℕ) (la : length a ≡ n) (lb : 
       length-append a (x ∷ b ++ (y ∷ c ++ (z ∷ [])))
       ∙ rw (length-append b (y ∷ c ++ (z ∷ [])), length-append c (z ∷ []), la, lb, lc) (omega arith)
 
-  pub joined-string : string_part n all ≡ a
-  joined-string = take_at a (x ∷ b ++ (y ∷ c ++ (z ∷ []))) n la
+  pub joined_string : string_part n all ≡ a
+  joined_string = take_at a (x ∷ b ++ (y ∷ c ++ (z ∷ []))) n la
 
-  pub joined-first : get_or all n 0 ≡ x
-  joined-first = get_or_at a x (b ++ (y ∷ c ++ (z ∷ []))) 0 n la
+  pub joined_first : get_or all n 0 ≡ x
+  joined_first = get_or_at a x (b ++ (y ∷ c ++ (z ∷ []))) 0 n la
 
-  pub joined-seed0 : seed0_part n all ≡ b
-  joined-seed0 = rw (← la, drop-append-add a (x ∷ b ++ (y ∷ c ++ (z ∷ []))) 1) (take_at b (y ∷ c ++ (z ∷ [])) 32 lb)
+  pub joined_seed0 : seed0_part n all ≡ b
+  joined_seed0 = rw (← la, drop-append-add a (x ∷ b ++ (y ∷ c ++ (z ∷ []))) 1) (take_at b (y ∷ c ++ (z ∷ [])) 32 lb)
 
-  pub joined-second : get_or all (n + 33) 0 ≡ y
-  joined-second = rw (← la, get_or-append-add a (x ∷ b ++ (y ∷ c ++ (z ∷ []))) 33 0) (get_or_at b y (c ++ (z ∷ [])) 0 32 lb)
+  pub joined_second : get_or all (n + 33) 0 ≡ y
+  joined_second = rw (← la, get_or-append-add a (x ∷ b ++ (y ∷ c ++ (z ∷ []))) 33 0) (get_or_at b y (c ++ (z ∷ [])) 0 32 lb)
 
-  pub joined-seed1 : seed1_part n all ≡ c
-  joined-seed1 =
+  pub joined_seed1 : seed1_part n all ≡ c
+  joined_seed1 =
       let e : 33 ≡ length b + 1 = rw lb refl in
       rw (← la, drop-append-add a (x ∷ b ++ (y ∷ c ++ (z ∷ []))) 34)
       (ap (λ (k : ℕ). take 32 (drop k (b ++ (y ∷ c ++ (z ∷ []))))) e
       ∙ ap (take 32) (drop-append-add b (y ∷ c ++ (z ∷ [])) 1)
       ∙ take_at c (z ∷ []) 32 lc)
 
-  pub joined-third : get_or all (n + 66) 0 ≡ z
-  joined-third =
+  pub joined_third : get_or all (n + 66) 0 ≡ z
+  joined_third =
       let e : 65 ≡ length b + 33 = rw lb refl in
       rw (← la, get_or-append-add a (x ∷ b ++ (y ∷ c ++ (z ∷ []))) 66 0)
       (ap (λ (k : ℕ). get_or (b ++ (y ∷ c ++ (z ∷ []))) k 0) e
@@ -56,8 +56,8 @@ cut cs m i j k e f h =
 
 -- a text of the right length is joined of its parts
 module _ (n : ℕ) (cs : List ℕ) (l : length cs ≡ line_length n) where
-  pub whole-line : joined (string_part n cs) (get_or cs n 0) (seed0_part n cs) (get_or cs (n + 33) 0) (seed1_part n cs) (get_or cs (n + 66) 0) ≡ cs
-  whole-line =
+  pub whole_line : joined (string_part n cs) (get_or cs n 0) (seed0_part n cs) (get_or cs (n + 33) 0) (seed1_part n cs) (get_or cs (n + 66) 0) ≡ cs
+  whole_line =
       let end : drop (n + 67) cs ≡ [] = drop_of_length-le cs {i = n + 67} (omega arith) in
       let third : seed1_part n cs ++ (get_or cs (n + 66) 0 ∷ []) ≡ drop (n + 34) cs =
       ap (λ (r : List ℕ). seed1_part n cs ++ (get_or cs (n + 66) 0 ∷ r)) (sym end) ∙ cut cs 32 (n + 34) (n + 66) (n + 67) (omega arith) (omega arith) (omega arith) in
@@ -65,11 +65,11 @@ module _ (n : ℕ) (cs : List ℕ) (l : length cs ≡ line_length n) where
       cut cs 32 (n + 1) (n + 33) (n + 34) (omega arith) (omega arith) (omega arith) in
       rw (third, second) (cut cs n 0 n (n + 1) (omega arith) (omega arith) (omega arith))
 
-  pub string-length : length (string_part n cs) ≡ n
-  string-length = length-take-le n cs (omega arith)
+  pub string_length : length (string_part n cs) ≡ n
+  string_length = length-take-le n cs (omega arith)
 
-  pub seed0-length : length (seed0_part n cs) ≡ 32
-  seed0-length = length-take-le 32 (drop (n + 1) cs) (omega (arith, length-drop (n + 1) cs))
+  pub seed0_length : length (seed0_part n cs) ≡ 32
+  seed0_length = length-take-le 32 (drop (n + 1) cs) (omega (arith, length-drop (n + 1) cs))
 
-  pub seed1-length : length (seed1_part n cs) ≡ 32
-  seed1-length = length-take-le 32 (drop (n + 34) cs) (omega (arith, length-drop (n + 34) cs))
+  pub seed1_length : length (seed1_part n cs) ≡ 32
+  seed1_length = length-take-le 32 (drop (n + 34) cs) (omega (arith, length-drop (n + 34) cs))

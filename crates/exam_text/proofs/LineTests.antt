@@ -15,47 +15,47 @@ use Rattle.exam_text.specs.Reader.{is_hex, are_bits, are_hex, line_length, strin
 
 -- ---- characters
 
-take-cons : (m c : ℕ) (l : List ℕ) → 0 < m → take m (c ∷ l) ≡ c ∷ take (m - 1) l
-take-cons zero c l h = absurd (omega arith)
-take-cons (suc m) c l h = let e : suc m - 1 ≡ m = omega arith in rw e
+take_cons : (m c : ℕ) (l : List ℕ) → 0 < m → take m (c ∷ l) ≡ c ∷ take (m - 1) l
+take_cons zero c l h = absurd (omega arith)
+take_cons (suc m) c l h = let e : suc m - 1 ≡ m = omega arith in rw e
 
 pub bits_none : (m : ℕ) (l : List ℕ) → m ≤ 0 → are_bits (take m l) ≡ true
 unfolding are_bits
 bits_none zero l h = refl
 bits_none (suc m) l h = absurd (omega arith)
 
-pub hex-none : (m : ℕ) (l : List ℕ) → m ≤ 0 → are_hex (take m l) ≡ true
+pub hex_none : (m : ℕ) (l : List ℕ) → m ≤ 0 → are_hex (take m l) ≡ true
 unfolding are_hex
-hex-none zero l h = refl
-hex-none (suc m) l h = absurd (omega arith)
+hex_none zero l h = refl
+hex_none (suc m) l h = absurd (omega arith)
 
 module _ (t : List ℕ) (i m : ℕ) (h : 0 < m) (r : i + m ≤ length t) where
   pub take_step : take m (drop i t) ≡ get_or t i 0 ∷ take (m - 1) (drop (suc i) t)
-  take_step = let k : i < length t = omega arith in rw (drop-cons t i 0 k) (take-cons m (get_or t i 0) (drop (suc i) t) h)
+  take_step = let k : i < length t = omega arith in rw (drop-cons t i 0 k) (take_cons m (get_or t i 0) (drop (suc i) t) h)
 
-  bits-step : are_bits (take m (drop i t)) ≡ ((eqb (get_or t i 0) 48 || eqb (get_or t i 0) 49) && are_bits (take (m - 1) (drop (suc i) t)))
+  bits_step : are_bits (take m (drop i t)) ≡ ((eqb (get_or t i 0) 48 || eqb (get_or t i 0) 49) && are_bits (take (m - 1) (drop (suc i) t)))
   unfolding are_bits
-  bits-step = rw take_step
+  bits_step = rw take_step
 
-  pub bits-no : (get_or t i 0 ≡ 48 → ⊥) → (get_or t i 0 ≡ 49 → ⊥) → are_bits (take m (drop i t)) ≡ false
-  bits-no a b = bits-step ∙ rw (ne_eqb (get_or t i 0) 48 a, ne_eqb (get_or t i 0) 49 b)
+  pub bits_no : (get_or t i 0 ≡ 48 → ⊥) → (get_or t i 0 ≡ 49 → ⊥) → are_bits (take m (drop i t)) ≡ false
+  bits_no a b = bits_step ∙ rw (ne_eqb (get_or t i 0) 48 a, ne_eqb (get_or t i 0) 49 b)
 
-  pub bits-yes : 48 ≤ get_or t i 0 → get_or t i 0 ≤ 49 → are_bits (take m (drop i t)) ≡ are_bits (take (m - 1) (drop (suc i) t))
-  bits-yes a b =
+  pub bits_yes : 48 ≤ get_or t i 0 → get_or t i 0 ≤ 49 → are_bits (take m (drop i t)) ≡ are_bits (take (m - 1) (drop (suc i) t))
+  bits_yes a b =
       elim (dec_lt 48 (get_or t i 0)) [
-        | yes k ↦ bits-step ∙ rw (eq-eqb (get_or t i 0) 49 (omega arith), ne_eqb (get_or t i 0) 48 (λ e. omega arith))
-        | no k ↦ bits-step ∙ rw (eq-eqb (get_or t i 0) 48 (omega arith))
+        | yes k ↦ bits_step ∙ rw (eq-eqb (get_or t i 0) 49 (omega arith), ne_eqb (get_or t i 0) 48 (λ e. omega arith))
+        | no k ↦ bits_step ∙ rw (eq-eqb (get_or t i 0) 48 (omega arith))
       ]
 
-  pub hex-step : are_hex (take m (drop i t)) ≡ (is_hex (get_or t i 0) && are_hex (take (m - 1) (drop (suc i) t)))
+  pub hex_step : are_hex (take m (drop i t)) ≡ (is_hex (get_or t i 0) && are_hex (take (m - 1) (drop (suc i) t)))
   unfolding are_hex
-  hex-step = rw take_step
+  hex_step = rw take_step
 
-  pub hex-no : is_hex (get_or t i 0) ≡ false → are_hex (take m (drop i t)) ≡ false
-  hex-no e = hex-step ∙ rw e
+  pub hex_no : is_hex (get_or t i 0) ≡ false → are_hex (take m (drop i t)) ≡ false
+  hex_no e = hex_step ∙ rw e
 
-  pub hex-yes : is_hex (get_or t i 0) ≡ true → are_hex (take m (drop i t)) ≡ are_hex (take (m - 1) (drop (suc i) t))
-  hex-yes e = hex-step ∙ rw e
+  pub hex_yes : is_hex (get_or t i 0) ≡ true → are_hex (take m (drop i t)) ≡ are_hex (take (m - 1) (drop (suc i) t))
+  hex_yes e = hex_step ∙ rw e
 
 -- ---- a line
 
@@ -67,20 +67,20 @@ part_of m (suc k) (suc w) (x ∷ l) h = part_of m k w l (omega arith)
 
 -- the parts of the line that begins at a place
 module _ (t : List ℕ) (at n : ℕ) where
-  pub string-part : string_part n (take (line_length n) (drop at t)) ≡ take n (drop at t)
-  string-part = take-take n (line_length n) (drop at t) (omega arith)
+  pub string_part_lem : string_part n (take (line_length n) (drop at t)) ≡ take n (drop at t)
+  string_part_lem = take-take n (line_length n) (drop at t) (omega arith)
 
-  seed-part : (k : ℕ) → k + 32 ≤ line_length n → take 32 (drop k (take (line_length n) (drop at t))) ≡ take 32 (drop (at + k) t)
-  seed-part k h = part_of 32 k (line_length n) (drop at t) h ∙ ap (take 32) (drop-drop k at t)
+  seed_part : (k : ℕ) → k + 32 ≤ line_length n → take 32 (drop k (take (line_length n) (drop at t))) ≡ take 32 (drop (at + k) t)
+  seed_part k h = part_of 32 k (line_length n) (drop at t) h ∙ ap (take 32) (drop-drop k at t)
 
-  pub seed0-part : seed0_part n (take (line_length n) (drop at t)) ≡ take 32 (drop (at + n + 1) t)
-  seed0-part = let e : at + (n + 1) ≡ at + n + 1 = omega arith in seed-part (n + 1) (omega arith) ∙ rw e
+  pub seed0_part_lem : seed0_part n (take (line_length n) (drop at t)) ≡ take 32 (drop (at + n + 1) t)
+  seed0_part_lem = let e : at + (n + 1) ≡ at + n + 1 = omega arith in seed_part (n + 1) (omega arith) ∙ rw e
 
-  pub seed1-part : seed1_part n (take (line_length n) (drop at t)) ≡ take 32 (drop (at + n + 34) t)
-  seed1-part = let e : at + (n + 34) ≡ at + n + 34 = omega arith in seed-part (n + 34) (omega arith) ∙ rw e
+  pub seed1_part_lem : seed1_part n (take (line_length n) (drop at t)) ≡ take 32 (drop (at + n + 34) t)
+  seed1_part_lem = let e : at + (n + 34) ≡ at + n + 34 = omega arith in seed_part (n + 34) (omega arith) ∙ rw e
 
-  char-at : (k : ℕ) → k < line_length n → get_or (take (line_length n) (drop at t)) k 0 ≡ get_or t (at + k) 0
-  char-at k h = get_or-take (line_length n) (drop at t) k 0 h ∙ get_or-drop at t k 0
+  char_at : (k : ℕ) → k < line_length n → get_or (take (line_length n) (drop at t)) k 0 ≡ get_or t (at + k) 0
+  char_at k h = get_or-take (line_length n) (drop at t) k 0 h ∙ get_or-drop at t k 0
 
 -- the tests by pairs
 pairs : (a b c d e f : Bool) → (a && b && c && d && e && f) ≡ (a && b && (c && d) && (e && f))
@@ -99,18 +99,18 @@ abbrev pub line_tests : List ℕ → ℕ → ℕ → Bool
 line_tests t at n = are_bits (take n (drop at t)) && eqb (get_or t (at + n) 0) 32 && seed_then t (at + n + 1) 32 && seed_then t (at + n + 34) 10
 
 module _ (t : List ℕ) (at n : ℕ) where
-  pub line-tests : is_line n (take (line_length n) (drop at t)) ≡ line_tests t at n
+  pub line_tests_lem : is_line n (take (line_length n) (drop at t)) ≡ line_tests t at n
   unfolding is_line
-  line-tests =
+  line_tests_lem =
       let p : at + (n + 33) ≡ at + n + 1 + 32 = omega arith in
       let q : at + (n + 66) ≡ at + n + 34 + 32 = omega arith in
       rw (
-        string-part t at n,
-        seed0-part t at n,
-        seed1-part t at n,
-        char-at t at n n (omega arith),
-        char-at t at n (n + 33) (omega arith),
-        char-at t at n (n + 66) (omega arith),
+        string_part_lem t at n,
+        seed0_part_lem t at n,
+        seed1_part_lem t at n,
+        char_at t at n n (omega arith),
+        char_at t at n (n + 33) (omega arith),
+        char_at t at n (n + 66) (omega arith),
         p,
         q,
       )
@@ -119,14 +119,14 @@ module _ (t : List ℕ) (at n : ℕ) where
 
   -- where they pass, both seeds are digits
   module _ (e : line_tests t at n ≡ true) where
-    pub tests-seed0 : are_hex (take 32 (drop (at + n + 1) t)) ≡ true
-    tests-seed0 =
+    pub tests_seed0 : are_hex (take 32 (drop (at + n + 1) t)) ≡ true
+    tests_seed0 =
         and_left (are_hex (take 32 (drop (at + n + 1) t))) _
         (and_right (are_bits (take n (drop at t)) && eqb (get_or t (at + n) 0) 32) (seed_then t (at + n + 1) 32)
         (and_left (are_bits (take n (drop at t)) && eqb (get_or t (at + n) 0) 32 && seed_then t (at + n + 1) 32) _ e))
 
-    pub tests-seed1 : are_hex (take 32 (drop (at + n + 34) t)) ≡ true
-    tests-seed1 =
+    pub tests_seed1 : are_hex (take 32 (drop (at + n + 34) t)) ≡ true
+    tests_seed1 =
         and_left (are_hex (take 32 (drop (at + n + 34) t))) _
         (and_right (are_bits (take n (drop at t)) && eqb (get_or t (at + n) 0) 32 && seed_then t (at + n + 1) 32) (seed_then t (at + n + 34) 10) e)
 
@@ -146,18 +146,18 @@ lines_step n (suc m) t here h r =
     rw (e, le-leb (line_length n) (length (drop here t)) (omega (arith, length-drop here t)), drop-drop (line_length n) here t)
 
 -- lines have the length of so many
-pub lines-length : (n m : ℕ) (cs : List ℕ) → are_lines n m cs ≡ true → length cs ≡ m * line_length n
+pub lines_length : (n m : ℕ) (cs : List ℕ) → are_lines n m cs ≡ true → length cs ≡ m * line_length n
 unfolding are_lines
-lines-length n zero cs e = omega (arith, eqb-true (length cs) 0 e)
-lines-length n (suc m) cs e =
+lines_length n zero cs e = omega (arith, eqb-true (length cs) 0 e)
+lines_length n (suc m) cs e =
     let a = and_left (leb (line_length n) (length cs) && is_line n (take (line_length n) cs)) (are_lines n m (drop (line_length n) cs)) e in
     let b = and_right (leb (line_length n) (length cs) && is_line n (take (line_length n) cs)) (are_lines n m (drop (line_length n) cs)) e in
     let k : line_length n ≤ length cs = leb-true _ _ (and_left (leb (line_length n) (length cs)) (is_line n (take (line_length n) cs)) a) in
-    omega (arith, lines-length n m (drop (line_length n) cs) b, length-drop (line_length n) cs, peel (suc m) (line_length n) (omega arith))
+    omega (arith, lines_length n m (drop (line_length n) cs) b, length-drop (line_length n) cs, peel (suc m) (line_length n) (omega arith))
 
 pub other_length : (n m : ℕ) (cs : List ℕ) → (length cs ≡ m * line_length n → ⊥) → are_lines n m cs ≡ false
 other_length n m cs h = go (are_lines n m cs) refl
   where
     go : (b : Bool) → are_lines n m cs ≡ b → b ≡ false
-    go true e = absurd (h (lines-length n m cs e))
+    go true e = absurd (h (lines_length n m cs e))
     go false e = refl

@@ -15,8 +15,8 @@ use Rattle.places.proofs.Lists.{and_left, and_right}
 use Rattle.exam_text.specs.Characters.{space, newline, binary, hexadecimal}
 use Rattle.exam_text.specs.Sheet.{Line, line_text, lines_text}
 use Rattle.exam_text.specs.Reader.{are_bits, are_hex, line_length, string_part, seed0_part, seed1_part, is_line, line_of, are_lines, lines_of}
-use Rattle.exam_text.proofs.LineParts.{joined_length, joined-string, joined-first, joined-seed0, joined-second, joined-seed1, joined-third, whole-line, string-length, seed0-length, seed1-length}
-use Rattle.exam_text.proofs.LineFields.{binary-length, binary-are-bits, read-binary, binary-read, hexadecimal-length, hexadecimal-are-hex, read-hexadecimal, hexadecimal-read, read-bytes}
+use Rattle.exam_text.proofs.LineParts.{joined_length, joined_string, joined_first, joined_seed0, joined_second, joined_seed1, joined_third, whole_line, string_length, seed0_length, seed1_length}
+use Rattle.exam_text.proofs.LineFields.{binary_length, binary_are_bits, read_binary, binary_read, hexadecimal_length, hexadecimal_are_hex, read_hexadecimal, hexadecimal_read, read_bytes}
 
 -- both seeds are 16 bytes
 abbrev pub Seeds : Line → Type 0
@@ -35,42 +35,42 @@ module _ (n : ℕ) (l : Line) (s : length l.string ≡ n) (seeds : Seeds l) wher
   c = hexadecimal l.seed1
 
   la : length a ≡ n
-  la = binary-length l.string ∙ s
+  la = binary_length l.string ∙ s
 
   lb : length b ≡ 32
-  lb = hexadecimal-length l.seed0 ∙ omega (arith, seeds.0.size)
+  lb = hexadecimal_length l.seed0 ∙ omega (arith, seeds.0.size)
 
   lc : length c ≡ 32
-  lc = hexadecimal-length l.seed1 ∙ omega (arith, seeds.1.size)
+  lc = hexadecimal_length l.seed1 ∙ omega (arith, seeds.1.size)
 
-  pub line-length : length (line_text l) ≡ line_length n
-  line-length = joined_length n a b c space space newline la lb lc
+  pub line_length_lem : length (line_text l) ≡ line_length n
+  line_length_lem = joined_length n a b c space space newline la lb lc
 
-  pub line-is-line : is_line n (line_text l) ≡ true
+  pub line_is_line : is_line n (line_text l) ≡ true
   unfolding is_line
-  line-is-line =
+  line_is_line =
       rw (
-        joined-string n a b c space space newline la lb lc,
-        joined-first n a b c space space newline la lb lc,
-        joined-seed0 n a b c space space newline la lb lc,
-        joined-second n a b c space space newline la lb lc,
-        joined-seed1 n a b c space space newline la lb lc,
-        joined-third n a b c space space newline la lb lc,
-        binary-are-bits l.string,
-        hexadecimal-are-hex 16 l.seed0 seeds.0,
-        hexadecimal-are-hex 16 l.seed1 seeds.1,
+        joined_string n a b c space space newline la lb lc,
+        joined_first n a b c space space newline la lb lc,
+        joined_seed0 n a b c space space newline la lb lc,
+        joined_second n a b c space space newline la lb lc,
+        joined_seed1 n a b c space space newline la lb lc,
+        joined_third n a b c space space newline la lb lc,
+        binary_are_bits l.string,
+        hexadecimal_are_hex 16 l.seed0 seeds.0,
+        hexadecimal_are_hex 16 l.seed1 seeds.1,
       )
 
-  pub read-line : line_of n (line_text l) ≡ l
+  pub read_line_lem : line_of n (line_text l) ≡ l
   unfolding line_of
-  read-line =
+  read_line_lem =
       rw (
-        joined-string n a b c space space newline la lb lc,
-        joined-seed0 n a b c space space newline la lb lc,
-        joined-seed1 n a b c space space newline la lb lc,
-        read-binary l.string,
-        read-hexadecimal 16 l.seed0 seeds.0,
-        read-hexadecimal 16 l.seed1 seeds.1,
+        joined_string n a b c space space newline la lb lc,
+        joined_seed0 n a b c space space newline la lb lc,
+        joined_seed1 n a b c space space newline la lb lc,
+        read_binary l.string,
+        read_hexadecimal 16 l.seed0 seeds.0,
+        read_hexadecimal 16 l.seed1 seeds.1,
       )
 
 -- the tests that a line passes
@@ -110,47 +110,47 @@ module _ (n : ℕ) (cs : List ℕ) (l : length cs ≡ line_length n) (e : is_lin
   line_read =
       let p = passed n cs e in
       rw (
-        binary-read (string_part n cs) p.string,
-        hexadecimal-read 16 (seed0_part n cs) (seed0-length n cs l) p.seed0,
-        hexadecimal-read 16 (seed1_part n cs) (seed1-length n cs l) p.seed1,
+        binary_read (string_part n cs) p.string,
+        hexadecimal_read 16 (seed0_part n cs) (seed0_length n cs l) p.seed0,
+        hexadecimal_read 16 (seed1_part n cs) (seed1_length n cs l) p.seed1,
       )
-      (rw (p.first, p.second, p.third) at (whole-line n cs l))
+      (rw (p.first, p.second, p.third) at (whole_line n cs l))
 
-  pub line-string : length (line_of n cs).string ≡ n
+  pub line_string : length (line_of n cs).string ≡ n
   unfolding line_of
-  line-string = length-map (string_part n cs) (λ c. eqb c 49) ∙ string-length n cs l
+  line_string = length-map (string_part n cs) (λ c. eqb c 49) ∙ string_length n cs l
 
-  pub line-seeds : Seeds (line_of n cs)
+  pub line_seeds : Seeds (line_of n cs)
   unfolding line_of
-  line-seeds = (
-    read-bytes 16 (seed0_part n cs) (seed0-length n cs l) (passed n cs e).seed0,
-    read-bytes 16 (seed1_part n cs) (seed1-length n cs l) (passed n cs e).seed1,
+  line_seeds = (
+    read_bytes 16 (seed0_part n cs) (seed0_length n cs l) (passed n cs e).seed0,
+    read_bytes 16 (seed1_part n cs) (seed1_length n cs l) (passed n cs e).seed1,
   )
 
 -- ---- all lines
 
 module _ (n : ℕ) where
-  pub lines-are-lines : (ls : List Line) → OfLength n (map (λ l. l.string) ls) → All Seeds ls → are_lines n (length ls) (lines_text ls) ≡ true
+  pub lines_are_lines : (ls : List Line) → OfLength n (map (λ l. l.string) ls) → All Seeds ls → are_lines n (length ls) (lines_text ls) ≡ true
   unfolding are_lines lines_text
-  lines-are-lines [] a s = refl
-  lines-are-lines (l ∷ ls) a s =
-      let k : length (line_text l) ≡ line_length n = line-length n l a.0 s.0 in
+  lines_are_lines [] a s = refl
+  lines_are_lines (l ∷ ls) a s =
+      let k : length (line_text l) ≡ line_length n = line_length_lem n l a.0 s.0 in
       let enough : line_length n ≤ length (line_text l ++ lines_text ls) = omega (arith, length-append (line_text l) (lines_text ls)) in
       rw (
         le-leb (line_length n) (length (line_text l ++ lines_text ls)) enough,
         take_at (line_text l) (lines_text ls) (line_length n) k,
         drop_at (line_text l) (lines_text ls) (line_length n) k,
-        line-is-line n l a.0 s.0,
+        line_is_line n l a.0 s.0,
       )
-      (lines-are-lines ls a.1 s.1)
+      (lines_are_lines ls a.1 s.1)
 
-  pub read-lines : (ls : List Line) → OfLength n (map (λ l. l.string) ls) → All Seeds ls → lines_of n (length ls) (lines_text ls) ≡ ls
+  pub read_lines : (ls : List Line) → OfLength n (map (λ l. l.string) ls) → All Seeds ls → lines_of n (length ls) (lines_text ls) ≡ ls
   unfolding lines_of lines_text
-  read-lines [] a s = refl
-  read-lines (l ∷ ls) a s =
-      let k : length (line_text l) ≡ line_length n = line-length n l a.0 s.0 in
+  read_lines [] a s = refl
+  read_lines (l ∷ ls) a s =
+      let k : length (line_text l) ≡ line_length n = line_length_lem n l a.0 s.0 in
       rw (take_at (line_text l) (lines_text ls) (line_length n) k, drop_at (line_text l) (lines_text ls) (line_length n) k)
-      (ap₂ ◌∷◌ (read-line n l a.0 s.0) (read-lines ls a.1 s.1))
+      (ap₂ ◌∷◌ (read_line_lem n l a.0 s.0) (read_lines ls a.1 s.1))
 
 -- lines that are read have that text, and are within their bounds
 pub record LinesRead (n C : ℕ) (cs : List ℕ) : Type 0 where
@@ -159,20 +159,20 @@ pub record LinesRead (n C : ℕ) (cs : List ℕ) : Type 0 where
   pub strings : OfLength n (map (λ l. l.string) (lines_of n C cs))
   pub seeds : All Seeds (lines_of n C cs)
 
-pub lines-read : (n C : ℕ) (cs : List ℕ) → are_lines n C cs ≡ true → LinesRead n C cs
+pub lines_read : (n C : ℕ) (cs : List ℕ) → are_lines n C cs ≡ true → LinesRead n C cs
 unfolding are_lines lines_of lines_text
-lines-read n zero [] e = record { written = refl; count = refl; strings = tt; seeds = tt }
-lines-read n zero (c ∷ cs) e = absurd (omega (arith, eqb-true (suc (length cs)) 0 e))
-lines-read n (suc C) cs e =
+lines_read n zero [] e = record { written = refl; count = refl; strings = tt; seeds = tt }
+lines_read n zero (c ∷ cs) e = absurd (omega (arith, eqb-true (suc (length cs)) 0 e))
+lines_read n (suc C) cs e =
     let m : ℕ = line_length n in
     let e₂ = and_left (leb m (length cs) && is_line n (take m cs)) (are_lines n C (drop m cs)) e in
     let enough : m ≤ length cs = leb-true m (length cs) (and_left (leb m (length cs)) (is_line n (take m cs)) e₂) in
     let line : is_line n (take m cs) ≡ true = and_right (leb m (length cs)) (is_line n (take m cs)) e₂ in
     let size : length (take m cs) ≡ m = length-take-le m cs enough in
-    let rest = lines-read n C (drop m cs) (and_right (leb m (length cs) && is_line n (take m cs)) (are_lines n C (drop m cs)) e) in
+    let rest = lines_read n C (drop m cs) (and_right (leb m (length cs) && is_line n (take m cs)) (are_lines n C (drop m cs)) e) in
     record {
       written = ap₂ ◌++◌ (line_read n (take m cs) size line) rest.written ∙ take-append-drop m cs;
       count = ap suc rest.count;
-      strings = (line-string n (take m cs) size line, rest.strings);
-      seeds = (line-seeds n (take m cs) size line, rest.seeds);
+      strings = (line_string n (take m cs) size line, rest.strings);
+      seeds = (line_seeds n (take m cs) size line, rest.seeds);
     }

@@ -12,8 +12,8 @@ use lib.Dec.{leb}
 use Rattle.places.proofs.Lists.{and_left, and_right}
 use Rattle.exam_text.specs.Sheet.{Line, Sheet, text, lines_text, Within}
 use Rattle.exam_text.specs.Reader.{is_first_line, are_lines, length_read, count_read, after_first_line, is_sheet, sheet_of, read_sheet}
-use Rattle.exam_text.proofs.LinesText.{lines-are-lines, read-lines, LinesRead, lines-read}
-use Rattle.exam_text.proofs.FirstLineText.{FirstLine, first-printed, FirstLineRead, first_read}
+use Rattle.exam_text.proofs.LinesText.{lines_are_lines, read_lines, LinesRead, lines_read}
+use Rattle.exam_text.proofs.FirstLineText.{FirstLine, first_printed, FirstLineRead, first_read}
 
 -- ---- the text of a sheet is read
 
@@ -23,38 +23,38 @@ module _ (s : Sheet) (w : Within s) where
 
   first : FirstLine (text s) s.n s.t (length ls) s.expander (lines_text ls)
   unfolding text
-  first = first-printed s.n s.t (length ls) (omega (arith, w.n-most)) w.t-digits (omega (arith, w.lines-most)) s.expander w.expander-digits (lines_text ls)
+  first = first_printed s.n s.t (length ls) (omega (arith, w.n_most)) w.t_digits (omega (arith, w.lines_at_most)) s.expander w.expander_digits (lines_text ls)
 
-  is-sheet : is_sheet (text s) ≡ true
+  is_sheet_lem : is_sheet (text s) ≡ true
   unfolding is_sheet
-  is-sheet =
+  is_sheet_lem =
       rw (
         le-leb (length (text s)) 4096 w.most,
         first.passes,
-        first.n-read,
-        first.C-read,
+        first.n_read,
+        first.c_read,
         first.rest_read,
-        le-leb s.n 32 w.n-most,
-        le-leb (length ls) 32 w.lines-most,
-        lines-are-lines s.n ls w.n-bits w.seeds,
+        le-leb s.n 32 w.n_most,
+        le-leb (length ls) 32 w.lines_at_most,
+        lines_are_lines s.n ls w.n_bits w.seeds,
       )
 
-  the-sheet : sheet_of (text s) ≡ s
+  the_sheet : sheet_of (text s) ≡ s
   unfolding sheet_of
-  the-sheet = rw (first.e-read, first.rest_read, first.n-read, first.t-read, first.C-read, read-lines s.n ls w.n-bits w.seeds)
+  the_sheet = rw (first.e_read, first.rest_read, first.n_read, first.t_read, first.c_read, read_lines s.n ls w.n_bits w.seeds)
 
   -- The text of a sheet within bounds passes, and is read as that sheet.
-  pub sheet-text : (is_sheet (text s) ≡ true) × (sheet_of (text s) ≡ s)
-  sheet-text = (is-sheet, the-sheet)
+  pub sheet_text : (is_sheet (text s) ≡ true) × (sheet_of (text s) ≡ s)
+  sheet_text = (is_sheet_lem, the_sheet)
 
   -- The reader reads the text of a sheet within bounds as that sheet.
-  pub read-printed : read_sheet (text s) ≡ some s
+  pub read_printed : read_sheet (text s) ≡ some s
   unfolding read_sheet
-  read-printed = rw (is-sheet, the-sheet)
+  read_printed = rw (is_sheet_lem, the_sheet)
 
 -- Two sheets within bounds with the same text are the same.
-pub text-injective : (s q : Sheet) → Within s → Within q → text s ≡ text q → s ≡ q
-text-injective s q w v e = sym (sheet-text s w).1 ∙ ap sheet_of e ∙ (sheet-text q v).1
+pub text_injective : (s q : Sheet) → Within s → Within q → text s ≡ text q → s ≡ q
+text_injective s q w v e = sym (sheet_text s w).1 ∙ ap sheet_of e ∙ (sheet_text q v).1
 
 -- ---- what is read is the text of a sheet
 
@@ -63,8 +63,8 @@ module _ (cs : List ℕ) (e : is_sheet cs ≡ true) where
   record Passed : Type 0 where
     most : length cs ≤ 4096
     first : FirstLineRead cs
-    n-most : length_read cs ≤ 32
-    C-most : count_read cs ≤ 32
+    n_most : length_read cs ≤ 32
+    c_most : count_read cs ≤ 32
     lines : LinesRead (length_read cs) (count_read cs) (after_first_line cs)
 
   passed : Passed
@@ -81,9 +81,9 @@ module _ (cs : List ℕ) (e : is_sheet cs ≡ true) where
       record {
         most = leb-true (length cs) 4096 (and_left a b e₂);
         first = first_read cs (and_right a b e₂);
-        n-most = leb-true (length_read cs) 32 (and_right (a && b) c e₃);
-        C-most = leb-true (count_read cs) 32 (and_right (a && b && c) d e₄);
-        lines = lines-read (length_read cs) (count_read cs) (after_first_line cs) (and_right (a && b && c && d) l e);
+        n_most = leb-true (length_read cs) 32 (and_right (a && b) c e₃);
+        c_most = leb-true (count_read cs) 32 (and_right (a && b && c) d e₄);
+        lines = lines_read (length_read cs) (count_read cs) (after_first_line cs) (and_right (a && b && c && d) l e);
       }
 
   written : cs ≡ text (sheet_of cs)
@@ -91,15 +91,15 @@ module _ (cs : List ℕ) (e : is_sheet cs ≡ true) where
   written = rw (passed.lines.count, passed.lines.written) passed.first.written
 
   -- A text that passes is that of its sheet, which is within bounds.
-  pub sheet-within : Within (sheet_of cs) × (cs ≡ text (sheet_of cs))
+  pub sheet_within : Within (sheet_of cs) × (cs ≡ text (sheet_of cs))
   unfolding sheet_of
-  sheet-within = (
+  sheet_within = (
     record {
-      n-most = passed.n-most;
-      lines-most = rw passed.lines.count passed.C-most;
-      t-digits = passed.first.t-digits;
-      expander-digits = passed.first.e-digits;
-      n-bits = passed.lines.strings;
+      n_most = passed.n_most;
+      lines_at_most = rw passed.lines.count passed.c_most;
+      t_digits = passed.first.t_digits;
+      expander_digits = passed.first.e_digits;
+      n_bits = passed.lines.strings;
       seeds = passed.lines.seeds;
       most = rw (← written) passed.most;
     },
@@ -107,36 +107,36 @@ module _ (cs : List ℕ) (e : is_sheet cs ≡ true) where
   )
 
 -- What the reader reads is the text of the sheet that it answers, which is within bounds.
-pub printed-read : (cs : List ℕ) (s : Sheet) → read_sheet cs ≡ some s → Within s × (cs ≡ text s)
+pub printed_read : (cs : List ℕ) (s : Sheet) → read_sheet cs ≡ some s → Within s × (cs ≡ text s)
 unfolding read_sheet
-printed-read cs s e = go (is_sheet cs) refl e
+printed_read cs s e = go (is_sheet cs) refl e
   where
     go : (b : Bool) → is_sheet cs ≡ b → cond b (some (sheet_of cs)) none ≡ some s → Within s × (cs ≡ text s)
-    go true p q = let r : sheet_of cs ≡ s = cc in rw r at (sheet-within cs p)
+    go true p q = let r : sheet_of cs ≡ s = cc in rw r at (sheet_within cs p)
     go false p q = let z : ◌≡◌ {A = ℕ} 0 1 = cc in absurd (omega arith)
 
 -- A text that does not pass is that of no sheet within bounds.
-pub not-a-sheet : (cs : List ℕ) → is_sheet cs ≡ false → (s : Sheet) → Within s → cs ≢ text s
-not-a-sheet cs e s w q =
-    let t : true ≡ false = sym (sheet-text s w).0 ∙ ap is_sheet (sym q) ∙ e in
+pub not_a_sheet : (cs : List ℕ) → is_sheet cs ≡ false → (s : Sheet) → Within s → cs ≢ text s
+not_a_sheet cs e s w q =
+    let t : true ≡ false = sym (sheet_text s w).0 ∙ ap is_sheet (sym q) ∙ e in
     let z : ◌≡◌ {A = ℕ} 0 1 = cc in
     omega arith
 
 -- The reader is exact: it reads a text as a sheet exactly if the sheet is within bounds and the text is its text.
-pub reader-exact : (cs : List ℕ) (s : Sheet) → (read_sheet cs ≡ some s) ↔ (Within s × (cs ≡ text s))
-reader-exact cs s = (printed-read cs s, λ h. ap read_sheet h.1 ∙ read-printed s h.0)
+pub reader_exact : (cs : List ℕ) (s : Sheet) → (read_sheet cs ≡ some s) ↔ (Within s × (cs ≡ text s))
+reader_exact cs s = (printed_read cs s, λ h. ap read_sheet h.1 ∙ read_printed s h.0)
 
 -- the bytes are the text of a sheet within bounds, or of none
 abbrev pub SheetOrNone : List ℕ → Type 0
 SheetOrNone cs = ((s : Sheet) × Within s × (cs ≡ text s)) ⊎ ((s : Sheet) → Within s → cs ≢ text s)
 
 -- Of any bytes one of both holds.
-pub sheet-or-none : (cs : List ℕ) → SheetOrNone cs
-sheet-or-none cs = go (is_sheet cs) refl
+pub sheet_or_none : (cs : List ℕ) → SheetOrNone cs
+sheet_or_none cs = go (is_sheet cs) refl
   where
     go : (b : Bool) → is_sheet cs ≡ b → SheetOrNone cs
-    go true e = inl (sheet_of cs, (sheet-within cs e).0, (sheet-within cs e).1)
-    go false e = inr (not-a-sheet cs e)
+    go true e = inl (sheet_of cs, (sheet_within cs e).0, (sheet_within cs e).1)
+    go false e = inr (not_a_sheet cs e)
 
 -- The text of no sheet within bounds is read as none.
 pub none_read_lem : (cs : List ℕ) → ((s : Sheet) → Within s → cs ≢ text s) → read_sheet cs ≡ none
@@ -144,5 +144,5 @@ unfolding read_sheet
 none_read_lem cs h = go (is_sheet cs) refl
   where
     go : (b : Bool) → is_sheet cs ≡ b → cond b (some (sheet_of cs)) none ≡ none
-    go true e = absurd (h (sheet_of cs) (sheet-within cs e).0 (sheet-within cs e).1)
+    go true e = absurd (h (sheet_of cs) (sheet_within cs e).0 (sheet_within cs e).1)
     go false e = refl

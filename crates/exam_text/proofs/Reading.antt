@@ -36,8 +36,8 @@ after_end cs = cond (number_then space cs) (behind (behind cs)) (behind cs)
 
 -- what such an end says
 pub record EndSays (text cs : List ℕ) (count expander here : ℕ) : Type 0 where
-  pub count-read : count ≡ first_number cs
-  pub expander-read : expander ≡ expander_number (end_expander cs)
+  pub count_is_read : count ≡ first_number cs
+  pub expander_read : expander ≡ expander_number (end_expander cs)
   pub rest : Rest text here (after_end cs)
 
 -- the end of a first line at a place
@@ -47,10 +47,10 @@ pub record EndRead (text : List ℕ) (at : ℕ) (laid_out : Bool) (count expande
 
 -- what a first line says
 pub record FirstLineSays (text : List ℕ) (n t count expander here : ℕ) : Type 0 where
-  pub n-read : n ≡ length_read text
-  pub t-read : t ≡ threshold_read text
-  pub count-read : count ≡ count_read text
-  pub expander-read : expander ≡ expander_number (expander_of text)
+  pub n_read : n ≡ length_read text
+  pub t_read : t ≡ threshold_read text
+  pub count_is_read : count ≡ count_read text
+  pub expander_read : expander ≡ expander_number (expander_of text)
   pub rest : Rest text here (after_first_line text)
 
 -- a first line

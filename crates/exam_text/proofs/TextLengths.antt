@@ -13,19 +13,19 @@ use Rattle.places.specs.Lists.{All}
 use Rattle.query.specs.Query.{OfLength}
 use Rattle.exam_text.specs.Characters.{glyph, decimal_in}
 use Rattle.exam_text.specs.Sheet.{Line, Sheet, strings, expander_number, line_text, lines_text, expander_text, text, FiveDigits}
-use Rattle.exam_text.proofs.LinesText.{Seeds, line-length}
+use Rattle.exam_text.proofs.LinesText.{Seeds, line_length_lem}
 
 -- ---- characters
 
 -- at most d + 1 for a number of at most d + 1 digits
-pub decimal-length : (d m x : ℕ) → x < 10 ^ suc d → length (decimal_in m x) ≤ suc d
+pub decimal_length_lem : (d m x : ℕ) → x < 10 ^ suc d → length (decimal_in m x) ≤ suc d
 unfolding decimal_in
-decimal-length d zero x h = omega arith
-decimal-length zero (suc m) x h = rw (lt-ltb x 10 h) (omega arith)
-decimal-length (suc d) (suc m) x h =
+decimal_length_lem d zero x h = omega arith
+decimal_length_lem zero (suc m) x h = rw (lt-ltb x 10 h) (omega arith)
+decimal_length_lem (suc d) (suc m) x h =
     let less : x < 10 ^ suc d * 10 = omega (arith, pow-succ' 10 (suc d)) in
     let ten : 0 < 10 = omega arith in
-    go (ltb x 10) (decimal-length d m (x / 10) ((div-lt_iff_lt-mul ten).1 less))
+    go (ltb x 10) (decimal_length_lem d m (x / 10) ((div-lt_iff_lt-mul ten).1 less))
   where
     go : (b : Bool) → length (decimal_in m (x / 10)) ≤ suc d → length (cond b (glyph x ∷ []) (decimal_in m (x / 10) ++ (glyph (x % 10) ∷ []))) ≤ suc (suc d)
     go true ih = omega arith
@@ -33,34 +33,34 @@ decimal-length (suc d) (suc m) x h =
 
 -- ---- the text of a sheet
 
-lines-length : (n : ℕ) (ls : List Line) → OfLength n (map (λ l. l.string) ls) → All Seeds ls → length (lines_text ls) ≡ length ls * (n + 67)
+lines_length : (n : ℕ) (ls : List Line) → OfLength n (map (λ l. l.string) ls) → All Seeds ls → length (lines_text ls) ≡ length ls * (n + 67)
 unfolding lines_text
-lines-length n [] bits seeds = omega arith
-lines-length n (l ∷ ls) bits seeds =
+lines_length n [] bits seeds = omega arith
+lines_length n (l ∷ ls) bits seeds =
     omega (
       arith,
       length-append (line_text l) (lines_text ls),
-      line-length n l bits.0 seeds.0,
-      lines-length n ls bits.1 seeds.1,
+      line_length_lem n l bits.0 seeds.0,
+      lines_length n ls bits.1 seeds.1,
       suc-mul (length ls) (n + 67),
     )
 
-expander-length : (e : Option ℕ) → FiveDigits (expander_number e) → length (expander_text e) ≤ 6
-expander-length none h = omega arith
-expander-length (some e) h = omega (arith, decimal-length 4 20 e h)
+expander_length : (e : Option ℕ) → FiveDigits (expander_number e) → length (expander_text e) ≤ 6
+expander_length none h = omega arith
+expander_length (some e) h = omega (arith, decimal_length_lem 4 20 e h)
 
 -- A sheet that is within the other bounds of a text is within that of its length.
-pub text-most : (s : Sheet) → s.n ≤ 32 → length s.lines ≤ 32 → FiveDigits s.t → FiveDigits (expander_number s.expander) → OfLength s.n (strings s)
+pub text_most : (s : Sheet) → s.n ≤ 32 → length s.lines ≤ 32 → FiveDigits s.t → FiveDigits (expander_number s.expander) → OfLength s.n (strings s)
     → All Seeds s.lines → length (text s) ≤ 4096
 unfolding text
-text-most s short few digits known bits seeds =
+text_most s short few digits known bits seeds =
     let wide : s.n + 67 ≤ 99 = omega arith in
     simp length-append (omega (
       arith,
-      decimal-length 4 20 s.n (omega arith),
-      decimal-length 4 20 s.t digits,
-      decimal-length 4 20 (length s.lines) (omega arith),
-      expander-length s.expander known,
-      lines-length s.n s.lines bits seeds,
+      decimal_length_lem 4 20 s.n (omega arith),
+      decimal_length_lem 4 20 s.t digits,
+      decimal_length_lem 4 20 (length s.lines) (omega arith),
+      expander_length s.expander known,
+      lines_length s.n s.lines bits seeds,
       mul-le-mul few wide,
     ))

@@ -14,10 +14,10 @@ use lib.Dec.{leb, eqb}
 use Rattle.places.specs.Lists.{digit}
 use Rattle.bits.specs.Strings.{Bits}
 use Rattle.bits.specs.Packing.{packed_length, value, pack_in, pack}
-use Rattle.bits.proofs.Packed.{value-nil}
+use Rattle.bits.proofs.Packed.{value_nil}
 use Rattle.places.proofs.Lists.{and_left, and_right}
 use Rattle.exam_text.specs.Reader.{is_decimal, is_hex, hex_value, are_hex, bytes_read, bits_read}
-use Rattle.exam_text.proofs.Decimals.{decimal-low, decimal-high}
+use Rattle.exam_text.proofs.Decimals.{decimal_low, decimal_high}
 use Rattle.exam_text.proofs.LineFields.{or_cases}
 use Rattle.exam_text.proofs.LineTests.{take_step}
 
@@ -25,14 +25,14 @@ use Rattle.exam_text.proofs.LineTests.{take_step}
 
 -- a digit up to `9` is decimal, and one past it a letter
 module _ (c : ℕ) (e : is_hex c ≡ true) where
-  pub hex-decimal : c ≤ 57 → 48 ≤ c
-  hex-decimal h =
-      ⊎_elim (λ a. decimal-low c a) (λ a. absurd (omega (arith, leb-true 97 c (and_left (leb 97 c) (leb c 102) a))))
+  pub hex_decimal : c ≤ 57 → 48 ≤ c
+  hex_decimal h =
+      ⊎_elim (λ a. decimal_low c a) (λ a. absurd (omega (arith, leb-true 97 c (and_left (leb 97 c) (leb c 102) a))))
       (or_cases (is_decimal c) (leb 97 c && leb c 102) e)
 
-  pub hex-letter : 57 < c → 97 ≤ c
-  hex-letter h =
-      ⊎_elim (λ a. absurd (omega (arith, decimal-high c a))) (λ a. leb-true 97 c (and_left (leb 97 c) (leb c 102) a))
+  pub hex_letter : 57 < c → 97 ≤ c
+  hex_letter h =
+      ⊎_elim (λ a. absurd (omega (arith, decimal_high c a))) (λ a. leb-true 97 c (and_left (leb 97 c) (leb c 102) a))
       (or_cases (is_decimal c) (leb 97 c && leb c 102) e)
 
 -- ---- pairs of them
@@ -45,35 +45,35 @@ module _ (t : List ℕ) (j m : ℕ) (h : 2 ≤ m) (r : j + m ≤ length t) where
       let d : suc j ≡ j + 1 = omega arith in
       take_step t j m (omega arith) r ∙ rw (take_step t (suc j) (m - 1) (omega arith) (omega arith), a, b, d)
 
-  pub bytes-step : bytes_read (take m (drop j t)) ≡ (16 * hex_value (get_or t j 0) + hex_value (get_or t (j + 1) 0)) ∷ bytes_read (take (m - 2) (drop (j + 2) t))
+  pub bytes_step : bytes_read (take m (drop j t)) ≡ (16 * hex_value (get_or t j 0) + hex_value (get_or t (j + 1) 0)) ∷ bytes_read (take (m - 2) (drop (j + 2) t))
   unfolding bytes_read
-  bytes-step = rw pair_step
+  bytes_step = rw pair_step
 
   module _ (e : are_hex (take m (drop j t)) ≡ true) where
-    pair-hex : (is_hex (get_or t j 0) && (is_hex (get_or t (j + 1) 0) && are_hex (take (m - 2) (drop (j + 2) t)))) ≡ true
+    pair_hex : (is_hex (get_or t j 0) && (is_hex (get_or t (j + 1) 0) && are_hex (take (m - 2) (drop (j + 2) t)))) ≡ true
     unfolding are_hex
-    pair-hex = rw pair_step at e
+    pair_hex = rw pair_step at e
 
-    pub high-hex : is_hex (get_or t j 0) ≡ true
-    high-hex = and_left (is_hex (get_or t j 0)) _ pair-hex
+    pub high_hex : is_hex (get_or t j 0) ≡ true
+    high_hex = and_left (is_hex (get_or t j 0)) _ pair_hex
 
-    later-hex : (is_hex (get_or t (j + 1) 0) && are_hex (take (m - 2) (drop (j + 2) t))) ≡ true
-    later-hex = and_right (is_hex (get_or t j 0)) _ pair-hex
+    later_hex : (is_hex (get_or t (j + 1) 0) && are_hex (take (m - 2) (drop (j + 2) t))) ≡ true
+    later_hex = and_right (is_hex (get_or t j 0)) _ pair_hex
 
-    pub low-hex : is_hex (get_or t (j + 1) 0) ≡ true
-    low-hex = and_left (is_hex (get_or t (j + 1) 0)) _ later-hex
+    pub low_hex : is_hex (get_or t (j + 1) 0) ≡ true
+    low_hex = and_left (is_hex (get_or t (j + 1) 0)) _ later_hex
 
-    pub rest-hex : are_hex (take (m - 2) (drop (j + 2) t)) ≡ true
-    rest-hex = and_right (is_hex (get_or t (j + 1) 0)) _ later-hex
+    pub rest_hex : are_hex (take (m - 2) (drop (j + 2) t)) ≡ true
+    rest_hex = and_right (is_hex (get_or t (j + 1) 0)) _ later_hex
 
 -- one byte more of a seed
-pub seed-more : (seed : List ℕ) (i v : ℕ) (x : List ℕ) → i < length seed → take (suc i) (set seed i v) ++ x ≡ take i seed ++ (v ∷ x)
-seed-more seed i v x h = rw (take-suc-set seed i v h) (append_snoc (take i seed) v x)
+pub seed_more : (seed : List ℕ) (i v : ℕ) (x : List ℕ) → i < length seed → take (suc i) (set seed i v) ++ x ≡ take i seed ++ (v ∷ x)
+seed_more seed i v x h = rw (take-suc-set seed i v h) (append_snoc (take i seed) v x)
 
-pub seed-whole : (seed : List ℕ) (k m : ℕ) (l w : List ℕ) → length seed ≤ k → m ≤ 0 → take k seed ++ bytes_read (take m l) ≡ w → seed ≡ w
+pub seed_whole : (seed : List ℕ) (k m : ℕ) (l w : List ℕ) → length seed ≤ k → m ≤ 0 → take k seed ++ bytes_read (take m l) ≡ w → seed ≡ w
 unfolding bytes_read
-seed-whole seed k zero l w h z e = sym (append-nil seed) ∙ ap (λ s. s ++ []) (sym (take_all k seed h)) ∙ e
-seed-whole seed k (suc m) l w h z e = absurd (omega arith)
+seed_whole seed k zero l w h z e = sym (append-nil seed) ∙ ap (λ s. s ++ []) (sym (take_all k seed h)) ∙ e
+seed_whole seed k (suc m) l w h z e = absurd (omega arith)
 
 -- ---- strings
 
@@ -81,22 +81,22 @@ module _ (t : List ℕ) (at n : ℕ) (r : at + n ≤ length t) where
   part_length : length (take n (drop at t)) ≡ n
   part_length = length-take-le n (drop at t) (omega (arith, length-drop at t))
 
-  pub bits-length : length (bits_read (take n (drop at t))) ≡ n
-  bits-length = length-map (take n (drop at t)) (λ c. eqb c 49) ∙ part_length
+  pub bits_length : length (bits_read (take n (drop at t))) ≡ n
+  bits_length = length-map (take n (drop at t)) (λ c. eqb c 49) ∙ part_length
 
   pub bit_past : (k : ℕ) → n ≤ k → get_or (bits_read (take n (drop at t))) k false ≡ false
-  bit_past k h = get_or-eq_default (bits_read (take n (drop at t))) false (omega (arith, bits-length))
+  bit_past k h = get_or-eq_default (bits_read (take n (drop at t))) false (omega (arith, bits_length))
 
   pub bit_at : (k : ℕ) → k < n → get_or (bits_read (take n (drop at t))) k false ≡ eqb (get_or t (at + k) 0) 49
   bit_at k h =
       get_or-map (λ c. eqb c 49) (take n (drop at t)) k 0
       ∙ ap (λ c. eqb c 49) (get_or-take n (drop at t) k 0 h ∙ get_or-drop at t k 0)
 
-value-next : (w : ℕ) (s : Bits) (k : ℕ) → value (suc w) (drop k s) ≡ digit (get_or s k false) * 2 ^ w + value w (drop (suc k) s)
+value_next : (w : ℕ) (s : Bits) (k : ℕ) → value (suc w) (drop k s) ≡ digit (get_or s k false) * 2 ^ w + value w (drop (suc k) s)
 unfolding value
-value-next w [] k = rw (drop-nil {A = Bool} k) (omega (arith, value-nil w))
-value-next w (b ∷ s) zero = refl
-value-next w (b ∷ s) (suc k) = value-next w s k
+value_next w [] k = rw (drop-nil {A = Bool} k) (omega (arith, value_nil w))
+value_next w (b ∷ s) zero = refl
+value_next w (b ∷ s) (suc k) = value_next w s k
 
 -- one bit more of a byte
 pub byte_more : (x d w : ℕ) (s : Bits) (k : ℕ) → 0 < w → d ≡ digit (get_or s k false)
@@ -104,32 +104,32 @@ pub byte_more : (x d w : ℕ) (s : Bits) (k : ℕ) → 0 < w → d ≡ digit (ge
 byte_more x d zero s k h e = absurd (omega arith)
 byte_more x d (suc w) s k h e =
     let f : suc w - 1 ≡ w = omega arith in
-    rw (f, value-next w s k, ← e)
+    rw (f, value_next w s k, ← e)
     (omega (arith, add-mul (2 * x) d (2 ^ w), mul_assoc 2 x (2 ^ w), mul_left_comm x 2 (2 ^ w), ap (λ y. x * y) (pow-succ' 2 w)))
 
 -- what a byte is so far fits
 pub byte_fits : (y w v : ℕ) → y * 2 ^ w + v < 256 → y < 256
 byte_fits y w v h = omega (arith, le-mul_of_pos_right {m = 2 ^ w} y (pow_pos w))
 
-pub byte-whole : (x w : ℕ) (s : Bits) → w ≤ 0 → x * 2 ^ w + value w s ≡ x
+pub byte_whole : (x w : ℕ) (s : Bits) → w ≤ 0 → x * 2 ^ w + value w s ≡ x
 unfolding value
-byte-whole x zero s h = omega arith
-byte-whole x (suc w) s h = absurd (omega arith)
+byte_whole x zero s h = omega arith
+byte_whole x (suc w) s h = absurd (omega arith)
 
-take-pack_in : (m k : ℕ) (s : Bits) → m ≤ k → take m (pack_in k s) ≡ pack_in m s
+take_pack_in : (m k : ℕ) (s : Bits) → m ≤ k → take m (pack_in k s) ≡ pack_in m s
 unfolding pack_in
-take-pack_in zero k s h = refl
-take-pack_in (suc m) zero s h = absurd (omega arith)
-take-pack_in (suc m) (suc k) s h = ap (λ l. value 8 s ∷ l) (take-pack_in m k (drop 8 s) (omega arith))
+take_pack_in zero k s h = refl
+take_pack_in (suc m) zero s h = absurd (omega arith)
+take_pack_in (suc m) (suc k) s h = ap (λ l. value 8 s ∷ l) (take_pack_in m k (drop 8 s) (omega arith))
 
 -- A string of at most 32 bits stands packed in the first of four bytes.
-pub packed-four : (n : ℕ) (s : Bits) → length s ≡ n → n ≤ 32 → take (packed_length n) (pack_in 4 s) ≡ pack s
+pub packed_four : (n : ℕ) (s : Bits) → length s ≡ n → n ≤ 32 → take (packed_length n) (pack_in 4 s) ≡ pack s
 unfolding pack
-packed-four n s l h = take-pack_in (packed_length n) 4 s (omega arith) ∙ rw l
+packed_four n s l h = take_pack_in (packed_length n) 4 s (omega arith) ∙ rw l
 
-pub four-length : (s : Bits) → length (pack_in 4 s) ≡ 4
+pub four_length : (s : Bits) → length (pack_in 4 s) ≡ 4
 unfolding pack_in
-four-length s = refl
+four_length s = refl
 
 -- four bytes, one after the other
 pub four_bytes_lem : (s : Bits) (b₀ b₁ b₂ b₃ : ℕ) → b₀ ≡ value 8 (drop 0 s) → b₁ ≡ value 8 (drop 8 s) → b₂ ≡ value 8 (drop 16 s) → b₃ ≡ value 8 (drop 24 s)

@@ -18,9 +18,9 @@ key_line_text k = decimal k.n ++ (space ∷ decimal k.expander ++ (space ∷ lin
 
 -- It is within the bounds that a sheet has.
 pub record KeyWithin (k : KeyLine) : Type 0 where
-  pub n-most : k.n ≤ 32
-  pub expander-digits : FiveDigits k.expander
-  pub n-bits : length k.line.string ≡ k.n
+  pub n_most : k.n ≤ 32
+  pub expander_digits : FiveDigits k.expander
+  pub n_bits : length k.line.string ≡ k.n
   pub seeds : Bytes 16 k.line.seed0 × Bytes 16 k.line.seed1
 
 -- ---- its reader
@@ -41,9 +41,9 @@ read_key_line cs = cond (is_key_line cs) (some (key_line_of cs)) none
 
 -- Its two numbers, and the place where its string and seeds stand.
 pub record KeyLineSays (cs : List ℕ) (n expander place : ℕ) : Type 0 where
-  pub n-read : n ≡ (key_line_of cs).n
-  pub expander-read : expander ≡ (key_line_of cs).expander
-  pub n-most : n ≤ 32
+  pub n_read : n ≡ (key_line_of cs).n
+  pub expander_read : expander ≡ (key_line_of cs).expander
+  pub n_most : n ≤ 32
   pub placed : drop place cs ≡ third cs
   pub stands : has_line n place cs ≡ true
   pub line_read : line_at n place cs ≡ (key_line_of cs).line

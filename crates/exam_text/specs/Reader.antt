@@ -169,12 +169,12 @@ read_sheet cs = cond (is_sheet cs) (some (sheet_of cs)) none
 
 -- The numbers of its first line, and the place where its other lines begin.
 pub record SheetSays (cs : List ℕ) (n t count expander lines : ℕ) : Type 0 where
-  pub n-read : n ≡ (sheet_of cs).n
-  pub t-read : t ≡ (sheet_of cs).t
-  pub count-read : count ≡ length (sheet_of cs).lines
-  pub expander-read : expander ≡ expander_number (sheet_of cs).expander
-  pub lines-within : lines ≤ length cs
-  pub lines-placed : drop lines cs ≡ after_first_line cs
+  pub n_read : n ≡ (sheet_of cs).n
+  pub t_read : t ≡ (sheet_of cs).t
+  pub count_is_read : count ≡ length (sheet_of cs).lines
+  pub expander_read : expander ≡ expander_number (sheet_of cs).expander
+  pub lines_within : lines ≤ length cs
+  pub lines_placed : drop lines cs ≡ after_first_line cs
 
 -- whether a line for strings of n bits, at most 32, stands at a place
 unfoldable pub has_line : ℕ → ℕ → List ℕ → Bool

@@ -57,10 +57,10 @@ FiveDigits x = x < 100000
 
 -- The sheet is within the bounds of a text.
 pub record Within (s : Sheet) : Type 0 where
-  pub n-most : s.n ≤ 32
-  pub lines-most : length s.lines ≤ 32
-  pub t-digits : FiveDigits s.t
-  pub expander-digits : FiveDigits (expander_number s.expander)
-  pub n-bits : OfLength s.n (strings s)
+  pub n_most : s.n ≤ 32
+  pub lines_at_most : length s.lines ≤ 32
+  pub t_digits : FiveDigits s.t
+  pub expander_digits : FiveDigits (expander_number s.expander)
+  pub n_bits : OfLength s.n (strings s)
   pub seeds : All (λ l. Bytes 16 l.seed0 × Bytes 16 l.seed1) s.lines
   pub most : length (text s) ≤ 4096

@@ -35,11 +35,11 @@ use Rattle.exam_text.specs.Sheet.{Line, Sheet, strings, expander_number, text}
 use Rattle.exam_lines.specs.Lines.{output_for}
 use Rattle.exam_answering.specs.Exam.{exam_outcome, answer_space, output}
 use Rattle.exam_answering.specs.AnswerText.{heavy_lines, prefix_lines, queried_from, answer_text}
-use Rattle.exam_answering.proofs.Exam.{sheet-outcome}
+use Rattle.exam_answering.proofs.Exam.{sheet_outcome}
 use Rattle.exam_answering.proofs.SameAnswer.{same_answer}
 use Rattle.examples.specs.Marked.{Holds, search_of, number_with, output_of, table, s01, s11}
-use Rattle.honest.proofs.Counted.{accepted-record, accepted-list}
-use Rattle.honest.proofs.Accepting.{listed-number}
+use Rattle.honest.proofs.Counted.{accepted_record, accepted_list}
+use Rattle.honest.proofs.Accepting.{listed_number}
 
 -- Naming `keys` on an `unfolding` line opens every definition that a key and a share run through.
 unfoldable pub keys : Unit {0}
@@ -62,18 +62,18 @@ unfolding binary decimal_in heavy_lines prefix_lines queried_from answer_text
 answers = tt
 
 -- A search row holds where the record and the list of its strings are those of the row.
-search-row : (n t : ℕ) (xs : List Bits) (bytes : List ℕ) (ss : List Bits) → honest_record n t xs ≡ bytes → honest_list n t xs ≡ ss
+search_row : (n t : ℕ) (xs : List Bits) (bytes : List ℕ) (ss : List Bits) → honest_record n t xs ≡ bytes → honest_list n t xs ≡ ss
     → Holds (search_of n t xs bytes ss)
-search-row n t xs bytes ss record_is list-is s ws honest every bits threshold ok = (
-  accepted-record s xs ws honest ok every ∙ ap₂ (λ (m u : ℕ). honest_record m u xs) bits threshold ∙ record_is,
-  accepted-list s xs ws honest ok every ∙ ap packs (ap₂ (λ (m u : ℕ). honest_list m u xs) bits threshold ∙ list-is),
+search_row n t xs bytes ss record_is list_is s ws honest every bits threshold ok = (
+  accepted_record s xs ws honest ok every ∙ ap₂ (λ (m u : ℕ). honest_record m u xs) bits threshold ∙ record_is,
+  accepted_list s xs ws honest ok every ∙ ap packs (ap₂ (λ (m u : ℕ). honest_list m u xs) bits threshold ∙ list_is),
 )
 
 -- A number row holds where its number is 0 if the record of its strings has the room, and 11 if not.
-number-row : (n t : ℕ) (xs : List Bits) (room : ℕ) → 1 ≤ n → n ≤ 256 → 1 ≤ t → t ≤ 65535 → length xs ≤ 65535
+number_row : (n t : ℕ) (xs : List Bits) (room : ℕ) → 1 ≤ n → n ≤ 256 → 1 ≤ t → t ≤ 65535 → length xs ≤ 65535
     → Holds (number_with n t xs room (cond (ltb room (length (honest_record n t xs))) 11 0))
-number-row n t xs room from to least most few s ws honest every bits threshold known area list =
-    listed-number s xs ws honest (rw bits from) (rw bits to) (rw threshold least) (either s.weighted (rw threshold most)) known few every (rw (bits, threshold) list)
+number_row n t xs room from to least most few s ws honest every bits threshold known area list =
+    listed_number s xs ws honest (rw bits from) (rw bits to) (rw threshold least) (either s.weighted (rw threshold most)) known few every (rw (bits, threshold) list)
     ∙ ap₂ (λ (r m : ℕ). cond (ltb r m) 11 0) area (ap₂ (λ (m u : ℕ). length (honest_record m u xs)) bits threshold)
   where
     -- a threshold within its bounds is also one of a weighted search
@@ -85,10 +85,10 @@ number-row n t xs room from to least most few s ws honest every bits threshold k
 output_row : (d : Sheet) (bytes : List ℕ) → outside most_bits d.n ≡ false → outside most_threshold d.t ≡ false → is_expander (expander_number d.expander) ≡ true
     → answer_text d ≡ bytes → length bytes ≤ answer_space → Holds (output_of d.n d.t d.expander (strings d) bytes)
 unfolding output
-output_row d bytes n-in t-in known answer fits s within same-n same-t same-expander same-strings =
-    let same : answer_text s ≡ bytes = same_answer s d same-n same-t same-strings ∙ answer in
+output_row d bytes n-in t-in known answer fits s within same-n same-t same-expander same_strings =
+    let same : answer_text s ≡ bytes = same_answer s d same-n same-t same_strings ∙ answer in
     let accepts : exam_outcome (text s) answer_space ≡ accepted bytes =
-    sheet-outcome s within answer_space ∙ rw (same, same-n, same-t, same-expander, n-in, t-in, known, le-ltb answer_space (length bytes) fits) in
+    sheet_outcome s within answer_space ∙ rw (same, same-n, same-t, same-expander, n-in, t-in, known, le-ltb answer_space (length bytes) fits) in
     ap output_for accepts
 
 -- D's strings in an exam sheet; its seeds do not matter
@@ -106,21 +106,21 @@ sheet =
     & (refl, refl)
     & (refl, refl)
     -- D
-    & search-row 2 2 _ _ _ refl refl
+    & search_row 2 2 _ _ _ refl refl
     & refl
     & output_row sheet_d _ refl refl refl refl (omega arith)
     -- E
-    & search-row 2 2 _ _ _ refl refl
+    & search_row 2 2 _ _ _ refl refl
     & refl
-    & number-row 2 2 _ 56 (omega arith) (omega arith) (omega arith) (omega arith) (omega arith)
+    & number_row 2 2 _ 56 (omega arith) (omega arith) (omega arith) (omega arith) (omega arith)
     -- F
-    & search-row 2 2 _ _ _ refl refl
+    & search_row 2 2 _ _ _ refl refl
     & refl
-    & number-row 2 2 _ 56 (omega arith) (omega arith) (omega arith) (omega arith) (omega arith)
+    & number_row 2 2 _ 56 (omega arith) (omega arith) (omega arith) (omega arith) (omega arith)
     -- G
-    & search-row 1 1 _ _ _ refl refl
-    & number-row 1 1 _ 32 (omega arith) (omega arith) (omega arith) (omega arith) (omega arith)
-    & number-row 1 1 _ 31 (omega arith) (omega arith) (omega arith) (omega arith) (omega arith)
+    & search_row 1 1 _ _ _ refl refl
+    & number_row 1 1 _ 32 (omega arith) (omega arith) (omega arith) (omega arith) (omega arith)
+    & number_row 1 1 _ 31 (omega arith) (omega arith) (omega arith) (omega arith) (omega arith)
     -- H
     & (refl, refl, refl)
     & (refl, refl, refl)
@@ -128,6 +128,6 @@ sheet =
     & (refl, refl)
     & (refl, refl)
     -- J
-    & number-row 2 2 _ 56 (omega arith) (omega arith) (omega arith) (omega arith) (omega arith)
-    & number-row 2 2 _ 55 (omega arith) (omega arith) (omega arith) (omega arith) (omega arith)
+    & number_row 2 2 _ 56 (omega arith) (omega arith) (omega arith) (omega arith) (omega arith)
+    & number_row 2 2 _ 55 (omega arith) (omega arith) (omega arith) (omega arith) (omega arith)
     & tt

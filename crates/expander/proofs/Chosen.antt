@@ -25,5 +25,5 @@ unknown e = go (eqb e 1) (eqb e 2)
 pub unnamed : (e : ℕ) → T (not (is_expander e)) → (e ≢ 1) × (e ≢ 2)
 unnamed e t = (λ q. T_not (is_expander e) t (rw q tt), λ q. T_not (is_expander e) t (rw q tt))
 
-pub unnamed-test : (e : ℕ) → (e ≢ 1) × (e ≢ 2) → T (not (is_expander e))
-unnamed-test e h = rw (ne_eqb e 1 h.0, ne_eqb e 2 h.1) tt
+pub unnamed_test : (e : ℕ) → (e ≢ 1) × (e ≢ 2) → T (not (is_expander e))
+unnamed_test e h = rw (ne_eqb e 1 h.0, ne_eqb e 2 h.1) tt

@@ -5,11 +5,11 @@ use mathlib.Core.Path.{◌≡◌, ap, ◌∙◌}
 use mathlib.Core.List.{List, [], ◌∷◌, ◌++◌}
 use lib.ListN.{length, length-append}
 use Rattle.exam_text.specs.Characters.{decimal}
-use Rattle.exam_text.proofs.Decimals.{decimal-more, decimal-enough}
+use Rattle.exam_text.proofs.Decimals.{decimal_more, decimal_enough}
 
 module _ (x : ℕ) (b : x < 2 ^ 64) (h : 10 ≤ x) where
-  pub decimal-long : decimal x ≡ decimal (x / 10) ++ ((48 + x % 10) ∷ [])
-  decimal-long = decimal-more 19 x h ∙ ap (λ (d : List ℕ). d ++ ((48 + x % 10) ∷ [])) (decimal-enough 18 19 (x / 10) (omega arith) (omega arith))
+  pub decimal_long : decimal x ≡ decimal (x / 10) ++ ((48 + x % 10) ∷ [])
+  decimal_long = decimal_more 19 x h ∙ ap (λ (d : List ℕ). d ++ ((48 + x % 10) ∷ [])) (decimal_enough 18 19 (x / 10) (omega arith) (omega arith))
 
-  pub decimal-long-length : length (decimal x) ≡ length (decimal (x / 10)) + 1
-  decimal-long-length = ap length decimal-long ∙ length-append (decimal (x / 10)) ((48 + x % 10) ∷ [])
+  pub decimal_long_length : length (decimal x) ≡ length (decimal (x / 10)) + 1
+  decimal_long_length = ap length decimal_long ∙ length-append (decimal (x / 10)) ((48 + x % 10) ∷ [])

@@ -8,19 +8,19 @@ use lib.ListN.{length, get_or, drop, drop_of_length-le}
 use lib.Seq.{drop-cons}
 use Rattle.exam_text.specs.Characters.{glyph, hexadecimal}
 
-pub glyph-digit : (x : ℕ) → x < 10 → 48 + x ≡ glyph x
-glyph-digit x h = rw (lt-ltb x 10 h)
+pub glyph_digit : (x : ℕ) → x < 10 → 48 + x ≡ glyph x
+glyph_digit x h = rw (lt-ltb x 10 h)
 
-pub glyph-letter : (x : ℕ) → 10 ≤ x → 87 + x ≡ glyph x
-glyph-letter x h = rw (le-ltb x 10 h)
+pub glyph_letter : (x : ℕ) → 10 ≤ x → 87 + x ≡ glyph x
+glyph_letter x h = rw (le-ltb x 10 h)
 
 module _ (bytes : List ℕ) (i : ℕ) where
-  pub hex-none : length bytes ≤ i → hexadecimal (drop i bytes) ≡ []
+  pub hex_none : length bytes ≤ i → hexadecimal (drop i bytes) ≡ []
   unfolding hexadecimal
-  hex-none h = rw (drop_of_length-le bytes h)
+  hex_none h = rw (drop_of_length-le bytes h)
 
   -- byte i and those after it
-  pub hex-step : i < length bytes
+  pub hex_step : i < length bytes
       → hexadecimal (drop i bytes) ≡ glyph (get_or bytes i 0 / 16) ∷ glyph (get_or bytes i 0 % 16) ∷ hexadecimal (drop (i + 1) bytes)
   unfolding hexadecimal
-  hex-step h = ap hexadecimal (drop-cons bytes i 0 h) ∙ rw (add-one i)
+  hex_step h = ap hexadecimal (drop-cons bytes i 0 h) ∙ rw (add-one i)

@@ -18,9 +18,9 @@ is_double x = eqb (doubling x) (2 · x)
 is_triple : ℕ → Bool
 is_triple x = eqb (2 · x ⊕ x) (3 · x)
 
-pub double-byte : (x : ℕ) → x < 256 → doubling x ≡ 2 · x
+pub double_byte : (x : ℕ) → x < 256 → doubling x ≡ 2 · x
 unfolding is_double computes
-double-byte x h = eqb→eq (doubling x) (2 · x) (below is_double 256 tt x h)
+double_byte x h = eqb→eq (doubling x) (2 · x) (below is_double 256 tt x h)
 
 tripled : (x : ℕ) → x < 256 → 2 · x ⊕ x ≡ 3 · x
 unfolding is_triple computes
@@ -32,7 +32,7 @@ mixed a b c d h = ap (λ (x : ℕ). 2 · a ⊕ x ⊕ c ⊕ d) (tripled b h)
 
 -- a byte doubled in the two cases
 pub doubled_below : (x : ℕ) → x < 128 → x * 2 % 256 ⊕ 0x00 ≡ 2 · x
-doubled_below x h = ap (λ (y : ℕ). x * 2 % 256 ⊕ y) (omega (arith, h)) ∙ double-byte x (omega (arith, h))
+doubled_below x h = ap (λ (y : ℕ). x * 2 % 256 ⊕ y) (omega (arith, h)) ∙ double_byte x (omega (arith, h))
 
 pub doubled_above : (x : ℕ) → 128 ≤ x → x < 256 → x * 2 % 256 ⊕ 0x1b ≡ 2 · x
-doubled_above x h l = ap (λ (y : ℕ). x * 2 % 256 ⊕ y) (omega (arith, h, l)) ∙ double-byte x l
+doubled_above x h l = ap (λ (y : ℕ). x * 2 % 256 ⊕ y) (omega (arith, h, l)) ∙ double_byte x l

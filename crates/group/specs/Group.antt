@@ -13,6 +13,6 @@ pub record CommutativeGroup (A : Type 0) (G : Group A) (In : A → Type 0) : Typ
   pub assoc : (x y z : A) → G.add (G.add x y) z ≡ G.add x (G.add y z)
   pub unit : (x : A) → In x → G.add x G.zero ≡ x
   pub inverse : (x : A) → G.add x (G.neg x) ≡ G.zero
-  pub in-add : (x y : A) → In (G.add x y)
-  pub in-neg : (x : A) → In (G.neg x)
-  pub in-zero : In G.zero
+  pub in_add : (x y : A) → In (G.add x y)
+  pub in_neg : (x : A) → In (G.neg x)
+  pub in_zero : In G.zero

@@ -11,18 +11,18 @@ use lib.Dec.{leb}
 use Rattle.places.specs.Lists.{select}
 use Rattle.bits.specs.Strings.{Bits, Ascending}
 use Rattle.calls.specs.Outcome.{Outcome}
-use Rattle.calls.proofs.Decisions.{neither-test}
+use Rattle.calls.proofs.Decisions.{neither_test}
 use Rattle.query.specs.Query.{OfLength, packs, query, limit, children}
 use Rattle.tree.specs.SearchRule.{totals, level, kept_from, fits_from, record_from, is_kept}
-use Rattle.query.proofs.Children.{children-length, children-ascending, select-ascending, kept-longer}
+use Rattle.query.proofs.Children.{children_length, children_ascending, select_ascending, kept_longer}
 use Rattle.places.proofs.Lists.{and_left, and_right}
-use Rattle.tree.proofs.Steps.{kept-nothing, record-nothing}
+use Rattle.tree.proofs.Steps.{kept_nothing, record_nothing}
 use Rattle.combine.specs.Answer.{Answer, next, list, ended, answer_at, answer_bytes, kind}
 use Rattle.combine.specs.Combine.{passes_limit, combine_kind, kind_with}
 use Rattle.search.specs.Search.{Lent, total, reaches_of}
 use Rattle.search.proofs.Outcome.{Sound}
 use Rattle.honest.specs.Loop.{Played, round, over, follow, answer_for, space_for, combine_in, kind_in, played}
-use Rattle.honest.proofs.Round.{round-length, round-totals, round-answer, too_large, round_number, round-succeeds}
+use Rattle.honest.proofs.Round.{round_length_lem, round_totals, round_answer, too_large, round_number, round_succeeds}
 
 abbrev leave : List ℕ → List ℕ → Played
 leave bytes ss = record { recorded = bytes; listed = ss }
@@ -32,66 +32,66 @@ module _ (s : Lent) (sound : Sound s) where
   keeps = is_kept (reaches_of s) (total s)
 
   -- One round: some prefixes of k bits are kept, and their children are asked; the answer passes no limit.
-  module _ (k : ℕ) (short : k < s.n) (ps : List Bits) (some-kept : 1 ≤ length ps) (few : length (children ps) ≤ limit)
+  module _ (k : ℕ) (short : k < s.n) (ps : List Bits) (some_kept : 1 ≤ length ps) (few : length (children ps) ≤ limit)
       (sized : OfLength k ps) (sorted : Ascending ps) (a : Answer) (is : answer_at s.n (suc k) (select keeps (children ps)) ≡ a) (within : passes_limit a ≡ false) where
     abbrev q : List ℕ
     q = query k (children ps)
 
-    answer-is : answer_for s q ≡ a
-    answer-is = round-answer s sound k short ps some-kept few sized sorted ∙ is
+    answer_is : answer_for s q ≡ a
+    answer_is = round_answer s sound k short ps some_kept few sized sorted ∙ is
 
-    enough : too_large s sound k short ps some-kept few sized sorted (space_for s q) ≡ false
-    enough = neither-test (le-ltb (space_for s q) (space_for s q) (omega arith)) (ap passes_limit answer-is ∙ within)
+    enough : too_large s sound k short ps some_kept few sized sorted (space_for s q) ≡ false
+    enough = neither_test (le-ltb (space_for s q) (space_for s q) (omega arith)) (ap passes_limit answer_is ∙ within)
 
     pub written_is : (combine_in s (space_for s q) q).written ≡ answer_bytes (suc k) a
     written_is =
-        ap (λ (o : Outcome). o.written) (round-succeeds s sound k short ps some-kept few sized sorted (space_for s q) enough)
-        ∙ ap₂ answer_bytes (round-length s sound k short ps some-kept few sized sorted) answer-is
+        ap (λ (o : Outcome). o.written) (round_succeeds s sound k short ps some_kept few sized sorted (space_for s q) enough)
+        ∙ ap₂ answer_bytes (round_length_lem s sound k short ps some_kept few sized sorted) answer_is
 
-    pub kind-is : kind_in s (space_for s q) q ≡ some (kind a)
+    pub kind_is : kind_in s (space_for s q) q ≡ some (kind a)
     unfolding combine_kind
-    kind-is =
-        ap₂ kind_with (round_number s sound k short ps some-kept few sized sorted (space_for s q) ∙ ap (λ (b : Bool). cond b 11 0) enough) answer-is
+    kind_is =
+        ap₂ kind_with (round_number s sound k short ps some_kept few sized sorted (space_for s q) ∙ ap (λ (b : Bool). cond b 11 0) enough) answer_is
 
     -- what is played from its query on
-    round-played : (m : ℕ) → played s (suc m) q ≡ round q (map (total s) (children ps)) (follow (played s m) (some (kind a)) (answer_bytes (suc k) a))
+    round_played : (m : ℕ) → played s (suc m) q ≡ round q (map (total s) (children ps)) (follow (played s m) (some (kind a)) (answer_bytes (suc k) a))
     unfolding played
-    round-played m =
-        ap₂ (round q) (round-totals s sound k short ps some-kept few sized sorted) (ap₂ (follow (played s m)) kind-is written_is)
+    round_played m =
+        ap₂ (round q) (round_totals s sound k short ps some_kept few sized sorted) (ap₂ (follow (played s m)) kind_is written_is)
 
   -- what the search rule says of m levels below the prefixes ps of k bits
   abbrev pub ruled : ℕ → ℕ → List Bits → Played
   ruled m k ps = record { recorded = record_from keeps (total s) m k ps; listed = packs (kept_from keeps m ps) }
 
-  level-asked : (k : ℕ) (qs : List Bits) → 1 ≤ length qs → query k qs ++ totals (total s) qs ≡ level (total s) k qs
-  level-asked k [] h = absurd (omega arith)
-  level-asked k (q ∷ qs) h = refl
+  level_asked : (k : ℕ) (qs : List Bits) → 1 ≤ length qs → query k qs ++ totals (total s) qs ≡ level (total s) k qs
+  level_asked k [] h = absurd (omega arith)
+  level_asked k (q ∷ qs) h = refl
 
-  round-ruled : (m k : ℕ) (ps : List Bits) → 1 ≤ length ps
+  round_ruled : (m k : ℕ) (ps : List Bits) → 1 ≤ length ps
       → round (query k (children ps)) (map (total s) (children ps)) (ruled m (suc k) (select keeps (children ps))) ≡ ruled (suc m) k ps
-  round-ruled m k ps h =
+  round_ruled m k ps h =
       let qs = children ps in
       let after = record_from keeps (total s) m (suc k) (select keeps qs) in
       let e : query k qs ++ (totals (total s) qs ++ after) ≡ level (total s) k qs ++ after =
       sym (append_assoc (query k qs) (totals (total s) qs) after)
-      ∙ ap (λ (bytes : List ℕ). bytes ++ after) (level-asked k qs (omega (arith, children-length ps))) in
+      ∙ ap (λ (bytes : List ℕ). bytes ++ after) (level_asked k qs (omega (arith, children_length ps))) in
       ap (λ (bytes : List ℕ). leave bytes (packs (kept_from keeps m (select keeps qs)))) e
 
-  nothing-ruled : (m k : ℕ) → over [] ≡ ruled m k []
+  nothing_ruled : (m k : ℕ) → over [] ≡ ruled m k []
   unfolding packs
-  nothing-ruled m k =
-      ap₂ (λ (bytes : List ℕ) (ps : List Bits). leave bytes (packs ps)) (sym (record-nothing keeps (total s) m k)) (sym (kept-nothing keeps m))
+  nothing_ruled m k =
+      ap₂ (λ (bytes : List ℕ) (ps : List Bits). leave bytes (packs ps)) (sym (record_nothing keeps (total s) m k)) (sym (kept_nothing keeps m))
 
   -- From any level on, what is played is what the search rule says.
   pub play : (m k : ℕ) (ps : List Bits) → k + suc m ≡ s.n → 1 ≤ length ps → OfLength k ps → Ascending ps → fits_from keeps (suc m) ps ≡ true
       → played s (suc m) (query k (children ps)) ≡ ruled (suc m) k ps
-  play zero k ps at some-kept sized sorted fits =
+  play zero k ps at some_kept sized sorted fits =
       let short : k < s.n = omega (arith, at) in
       let few : length (children ps) ≤ limit = leb-true (length (children ps)) limit (and_left (leb (length (children ps)) limit) _ fits) in
       let ks = select keeps (children ps) in
       let end : suc k ≡ s.n = omega (arith, at) in
-      round-played k short ps some-kept few sized sorted (list ks) (rw (eq-eqb (suc k) s.n end)) refl zero ∙ round-ruled zero k ps some-kept
-  play (suc m) k ps at some-kept sized sorted fits = go (select keeps (children ps)) refl (play m (suc k) (select keeps (children ps)) (omega (arith, at)))
+      round_played k short ps some_kept few sized sorted (list ks) (rw (eq-eqb (suc k) s.n end)) refl zero ∙ round_ruled zero k ps some_kept
+  play (suc m) k ps at some_kept sized sorted fits = go (select keeps (children ps)) refl (play m (suc k) (select keeps (children ps)) (omega (arith, at)))
     where
       short : k < s.n
       short = omega (arith, at)
@@ -111,15 +111,15 @@ module _ (s : Lent) (sound : Sound s) where
           → played s (suc m) (query (suc k) (children (select keeps (children ps)))) ≡ ruled (suc m) (suc k) (select keeps (children ps)))
           → played s (suc (suc m)) (query k (children ps)) ≡ ruled (suc (suc m)) k ps
       go [] e rest =
-          round-played k short ps some-kept few sized sorted ended (rw (ne_eqb (suc k) s.n below, e)) refl (suc m)
-          ∙ ap (round (query k (children ps)) (map (total s) (children ps))) (nothing-ruled (suc m) (suc k) ∙ ap (ruled (suc m) (suc k)) (sym e))
-          ∙ round-ruled (suc m) k ps some-kept
+          round_played k short ps some_kept few sized sorted ended (rw (ne_eqb (suc k) s.n below, e)) refl (suc m)
+          ∙ ap (round (query k (children ps)) (map (total s) (children ps))) (nothing_ruled (suc m) (suc k) ∙ ap (ruled (suc m) (suc k)) (sym e))
+          ∙ round_ruled (suc m) k ps some_kept
       go (p ∷ ks) e rest =
           let some_left : 1 ≤ length (select keeps (children ps)) = rw e (omega arith) in
-          let next-few : length (children (p ∷ ks)) ≤ limit =
+          let next_few : length (children (p ∷ ks)) ≤ limit =
           subst (λ (qs : List Bits). length (children qs) ≤ limit) e (leb-true _ limit (and_left (leb (length (children (select keeps (children ps)))) limit) _ later)) in
-          round-played k short ps some-kept few sized sorted (next (children (p ∷ ks))) (rw (ne_eqb (suc k) s.n below, e)) (le-ltb limit _ next-few) (suc m)
+          round_played k short ps some_kept few sized sorted (next (children (p ∷ ks))) (rw (ne_eqb (suc k) s.n below, e)) (le-ltb limit _ next_few) (suc m)
           ∙ ap (round (query k (children ps)) (map (total s) (children ps)))
           (ap (λ (qs : List Bits). played s (suc m) (query (suc k) (children qs))) (sym e)
-          ∙ rest some_left (kept-longer keeps k ps sized) (select-ascending keeps (children ps) (children-ascending ps sorted)) later)
-          ∙ round-ruled (suc m) k ps some-kept
+          ∙ rest some_left (kept_longer keeps k ps sized) (select_ascending keeps (children ps) (children_ascending ps sorted)) later)
+          ∙ round_ruled (suc m) k ps some_kept

@@ -12,40 +12,40 @@ use Rattle.bits.specs.Strings.{Bits}
 use Rattle.point.specs.PublicShare.{joined}
 use Rattle.tree.specs.SearchRule.{start, level, kept_from, record_from, is_kept, search_list}
 use Rattle.query.specs.Query.{children}
-use Rattle.tree.proofs.Steps.{record-last}
+use Rattle.tree.proofs.Steps.{record_last}
 use Rattle.search.specs.Search.{Lent, record_bytes, list_bytes, record_length, list_length, record_after, list_after}
-use Rattle.search.proofs.Outcome.{accepted-clear}
+use Rattle.search.proofs.Outcome.{accepted_clear}
 use Rattle.honest.specs.Honest.{Accepted, record_read, list_read}
 
 module _ (s : Lent) (ok : Accepted s) where
-  pub record-read : record_read s ≡ record_bytes s
+  pub record_read_lem : record_read s ≡ record_bytes s
   unfolding record_length record_after overlay
-  record-read = rw ok (take-append_seam (record_bytes s) _)
+  record_read_lem = rw ok (take-append_seam (record_bytes s) _)
 
-  record-returned : record_length s ≡ length (record_bytes s)
+  record_returned : record_length s ≡ length (record_bytes s)
   unfolding record_length
-  record-returned = rw ok
+  record_returned = rw ok
 
   -- its length is the one returned, and no more than the area has
-  pub record-whole : (length (record_read s) ≡ record_length s) × (record_length s ≤ length s.record_area)
-  record-whole = (ap length record-read ∙ sym record-returned, omega (arith, record-returned, (accepted-clear s ok).record-fits))
+  pub record_whole : (length (record_read s) ≡ record_length s) × (record_length s ≤ length s.record_area)
+  record_whole = (ap length record_read_lem ∙ sym record_returned, omega (arith, record_returned, (accepted_clear s ok).record_fits))
 
   pub list_read_lem : list_read s ≡ list_bytes s
   unfolding list_length list_after overlay
   list_read_lem = rw ok (take-append_seam (list_bytes s) _)
 
-  list-returned : list_length s ≡ length (list_bytes s)
+  list_returned : list_length s ≡ length (list_bytes s)
   unfolding list_length
-  list-returned = rw ok
+  list_returned = rw ok
 
-  pub list-whole : (length (list_read s) ≡ list_length s) × (list_length s ≤ length s.list_area)
-  list-whole = (ap length list_read_lem ∙ sym list-returned, omega (arith, list-returned, (accepted-clear s ok).list-fits))
+  pub list_whole : (length (list_read s) ≡ list_length s) × (list_length s ≤ length s.list_area)
+  list_whole = (ap length list_read_lem ∙ sym list_returned, omega (arith, list_returned, (accepted_clear s ok).list_fits))
 
 -- What n levels add to a record are the levels, one after the other.
-pub levels-joined : (enough : ℕ → Bool) (T : Bits → ℕ) (n : ℕ)
+pub levels_joined : (enough : ℕ → Bool) (T : Bits → ℕ) (n : ℕ)
     → record_from (is_kept enough T) T n 0 start ≡ joined n (λ k. level T k (children (search_list enough T k)))
 unfolding joined search_list
-levels-joined enough T zero = refl
-levels-joined enough T (suc n) =
-    record-last (is_kept enough T) T n 0 start
-    ∙ ap₂ (λ (r : List ℕ) (k : ℕ). r ++ level T k (children (kept_from (is_kept enough T) n start))) (levels-joined enough T n) (zero-add n)
+levels_joined enough T zero = refl
+levels_joined enough T (suc n) =
+    record_last (is_kept enough T) T n 0 start
+    ∙ ap₂ (λ (r : List ℕ) (k : ℕ). r ++ level T k (children (kept_from (is_kept enough T) n start))) (levels_joined enough T n) (zero-add n)

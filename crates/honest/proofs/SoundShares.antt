@@ -10,8 +10,8 @@ use lib.ListN.{length}
 use Rattle.bits.specs.Strings.{Bits}
 use Rattle.calls.specs.Bounds.{most_reports}
 use Rattle.calls.specs.Outcome.{accepted}
-use Rattle.calls.proofs.Decisions.{neither-test, in_bounds}
-use Rattle.calls.proofs.Judged.{judged-accepted, ◌&◌}
+use Rattle.calls.proofs.Decisions.{neither_test, in_bounds}
+use Rattle.calls.proofs.Judged.{judged_accepted, ◌&◌}
 use Rattle.expander.specs.Expander.{choice_of, under}
 use Rattle.expander.specs.declared.Expander.{Expander}
 use Rattle.expander.specs.declared.Choice.{Choice}
@@ -40,14 +40,14 @@ sum_below test (suc m) f = go (test m) (sum_below test m f)
     go false h = h
 
 -- so a server's sum is
-pub server-below : (e : Expander) (n : ℕ) (b : Bool) (seeds shares : List ℕ) (test q : ℕ → Bool) (k : ℕ) → server_sum e n b seeds shares test q k < p
+pub server_below : (e : Expander) (n : ℕ) (b : Bool) (seeds shares : List ℕ) (test q : ℕ → Bool) (k : ℕ) → server_sum e n b seeds shares test q k < p
 unfolding server_sum
-server-below e n b seeds shares test q k = sum_below test (report_count n seeds shares) _
+server_below e n b seeds shares test q k = sum_below test (report_count n seeds shares) _
 
 -- and so a total is, whatever was lent
-pub total-below : (s : Lent) (q : Bits) → total s q < p
+pub total_below : (s : Lent) (q : Bits) → total s q < p
 unfolding total_under
-total-below s q = go (choice_of s.expander)
+total_below s q = go (choice_of s.expander)
   where
     go : (c : Choice) → total_under c s q < p
     go (Known e) = mod-lt _ (omega arith)
@@ -56,32 +56,32 @@ total-below s q = go (choice_of s.expander)
 -- What a server is lent for C reports of 1 to 256 bits, at most 65,535, is whole; and the number of the expander.
 module _ (n number : ℕ) (e : Expander) (named : choice_of number ≡ Known e) (from : 1 ≤ n) (to : n ≤ 256)
     (seeds shares : List ℕ) (C : ℕ) (lent : Whole n seeds shares C) (few : C ≤ 65535) where
-  seeds-count : length seeds / 16 ≡ C
-  seeds-count = omega (arith, lent.seeds-length)
+  seeds_count : length seeds / 16 ≡ C
+  seeds_count = omega (arith, lent.seeds_length)
 
-  right-lengths : wrong_lengths n seeds shares ≡ false
-  right-lengths =
-      let no-rest : length seeds % 16 ≡ 0 = omega (arith, lent.seeds-length) in
+  right_lengths : wrong_lengths n seeds shares ≡ false
+  right_lengths =
+      let no_rest : length seeds % 16 ≡ 0 = omega (arith, lent.seeds_length) in
       let none_left : length shares % public_share_length n ≡ 0 =
-      ap (λ (l : ℕ). l % public_share_length n) lent.shares-length ∙ mul-mod_right (public_share_length n) C in
+      ap (λ (l : ℕ). l % public_share_length n) lent.shares_length ∙ mul-mod_right (public_share_length n) C in
       let as_many : length shares / public_share_length n ≡ C =
-      ap (λ (l : ℕ). l / public_share_length n) lent.shares-length ∙ mul-div_right C (omega arith) in
-      neither-test (ap not (eq-eqb _ 0 no-rest))
-      (neither-test (ap not (eq-eqb _ 0 none_left)) (ap not (eq-eqb _ _ (seeds-count ∙ sym as_many))))
+      ap (λ (l : ℕ). l / public_share_length n) lent.shares_length ∙ mul-div_right C (omega arith) in
+      neither_test (ap not (eq-eqb _ 0 no_rest))
+      (neither_test (ap not (eq-eqb _ 0 none_left)) (ap not (eq-eqb _ _ (seeds_count ∙ sym as_many))))
 
-  payloads-small : payload_too_large n (report_count n seeds shares) shares ≡ false
-  payloads-small = ap not (every_true (report_count n seeds shares) _ (λ i h. lent.payloads i (rw lent.count at h)))
+  payloads_small : payload_too_large n (report_count n seeds shares) shares ≡ false
+  payloads_small = ap not (every_true (report_count n seeds shares) _ (λ i h. lent.payloads i (rw lent.count at h)))
 
-  spares-zero : spare_bits_set n (report_count n seeds shares) shares ≡ false
-  spares-zero = ap not (every_true (report_count n seeds shares) _ (λ i h. lent.spares i (rw lent.count at h)))
+  spares_zero_lem : spare_bits_set n (report_count n seeds shares) shares ≡ false
+  spares_zero_lem = ap not (every_true (report_count n seeds shares) _ (λ i h. lent.spares i (rw lent.count at h)))
 
   -- For a query and room for 8 bytes a prefix, server b succeeds and writes its sum at each prefix.
-  pub whole-share : (b : Bool) (query : List ℕ) → is_query n query ≡ true → (room : ℕ) → 8 * prefix_count query ≤ room
+  pub whole_share : (b : Bool) (query : List ℕ) → is_query n query ≡ true → (room : ℕ) → 8 * prefix_count query ≤ room
       → share_outcome n number b seeds shares query room ≡ accepted (totals (λ (q : Bits). server_sum e n b seeds shares all_count (bit_of q) (length q)) (prefixes_of query))
   unfolding share_outcome share_bytes
-  whole-share b query asks room fits =
-      let most : length seeds / 16 ≤ most_reports = omega (arith, seeds-count) in
-      judged-accepted (share_causes n number seeds shares query room) _
-      (in_bounds 256 n from to & ap not (known number e named) & right-lengths & le-ltb most_reports _ most
-      & payloads-small & spares-zero & ap not asks & le-ltb room (8 * prefix_count query) fits & tt)
+  whole_share b query asks room fits =
+      let most : length seeds / 16 ≤ most_reports = omega (arith, seeds_count) in
+      judged_accepted (share_causes n number seeds shares query room) _
+      (in_bounds 256 n from to & ap not (known number e named) & right_lengths & le-ltb most_reports _ most
+      & payloads_small & spares_zero_lem & ap not asks & le-ltb room (8 * prefix_count query) fits & tt)
       ∙ ap (λ (c : Choice). accepted (under c (share_bytes n b seeds shares query))) named

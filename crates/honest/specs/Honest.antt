@@ -29,7 +29,7 @@ abbrev pub list_read : Lent → List ℕ
 list_read s = take (list_length s) (list_after s)
 
 -- what the key maker gives for the string x and the weight w, with the search's length and expander and the root seeds lent for report i, each
--- server's own, in space for exactly the public share; more space gives the same (`key-made`)
+-- server's own, in space for exactly the public share; more space gives the same (`key_made`)
 abbrev pub key_at : Lent → Bits → ℤ → ℕ → Outcome
 key_at s x w i = key_outcome s.n s.expander w (pack x) (seed_at s.seeds0 i) (seed_at s.seeds1 i) (public_share_length s.n)
 
@@ -37,7 +37,7 @@ key_at s x w i = key_outcome s.n s.expander w (pack x) (seed_at s.seeds0 i) (see
 -- all of 16 bits, and every weight is one where the search is not weighted; the root seeds are bytes; and for each report the public share that each
 -- server is lent is what the key maker gave for its string, its weight and its two root seeds.
 pub record Honest (s : Lent) (xs : List Bits) (ws : List ℤ) : Type 0 where
-  pub n-bits : OfLength s.n xs
+  pub n_bits : OfLength s.n xs
   pub weighed : length ws ≡ length xs
   pub weights : All IsWeight ws
   pub unweighted : s.weighted ≡ false → EveryOne ws

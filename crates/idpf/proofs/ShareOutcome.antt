@@ -14,7 +14,7 @@ use Rattle.calls.specs.Bounds.{most_bits, most_reports, outside}
 use Rattle.calls.specs.Causes.{Cause}
 use Rattle.calls.specs.Outcome.{accepted, judged}
 use Rattle.calls.proofs.Decisions.{neither, bounds}
-use Rattle.calls.proofs.Judged.{Clear, judged-number, judged-refused, judged-accepted, judged-clear}
+use Rattle.calls.proofs.Judged.{Clear, judged_number, judged_refused, judged_accepted, judged_clear}
 use Rattle.expander.specs.Expander.{is_expander, choice_of}
 use Rattle.expander.specs.declared.Expander.{Expander}
 use Rattle.expander.specs.declared.Choice.TheVariants.{Known, Unknown}
@@ -22,10 +22,10 @@ use Rattle.expander.proofs.Chosen.{unknown}
 use Rattle.group.specs.Modular.{p}
 use Rattle.point.specs.Evaluation.{bit_of}
 use Rattle.point.specs.PublicShare.{public_share_length, payloads_below, spare_bits_zero}
-use Rattle.point.proofs.Joined.{every-at}
+use Rattle.point.proofs.Joined.{every_at}
 use Rattle.query.specs.Query.{prefix_length, prefix_count, packed_prefixes, prefixes_of, is_query}
-use Rattle.query.proofs.Queries.{parts-length}
-use Rattle.tree.proofs.Lengths.{totals-length}
+use Rattle.query.proofs.Queries.{parts_length}
+use Rattle.tree.proofs.Lengths.{totals_length}
 use Rattle.report_sums.specs.Reports.{report_count, public_share_at, all_count, server_sum}
 use Rattle.report_sums.specs.Checks.{wrong_lengths, payload_too_large, spare_bits_set}
 use Rattle.idpf.specs.Share.{share_causes, share_bytes, share_outcome}
@@ -36,39 +36,39 @@ module _ (n e : ℕ) (seeds shares query : List ℕ) (room : ℕ) where
   abbrev pub causes : List Cause
   causes = share_causes n e seeds shares query room
 
-  pub cause-1 : outside most_bits n ≡ true → 1 ≡ (judged causes []).number
-  cause-1 h = rw h
+  pub cause_1 : outside most_bits n ≡ true → 1 ≡ (judged causes []).number
+  cause_1 h = rw h
 
   module _ (h₁ : outside most_bits n ≡ false) where
-    pub cause-3 : is_expander e ≡ false → 3 ≡ (judged causes []).number
-    cause-3 h = rw (h₁, h)
+    pub cause_3 : is_expander e ≡ false → 3 ≡ (judged causes []).number
+    cause_3 h = rw (h₁, h)
 
     module _ (h₃ : is_expander e ≡ true) where
-      pub cause-4 : wrong_lengths n seeds shares ≡ true → 4 ≡ (judged causes []).number
-      cause-4 h = rw (h₁, h₃, h)
+      pub cause_4 : wrong_lengths n seeds shares ≡ true → 4 ≡ (judged causes []).number
+      cause_4 h = rw (h₁, h₃, h)
 
       module _ (h₄ : wrong_lengths n seeds shares ≡ false) where
-        pub cause-5 : ltb most_reports (length seeds / 16) ≡ true → 5 ≡ (judged causes []).number
-        cause-5 h = rw (h₁, h₃, h₄, h)
+        pub cause_5 : ltb most_reports (length seeds / 16) ≡ true → 5 ≡ (judged causes []).number
+        cause_5 h = rw (h₁, h₃, h₄, h)
 
         module _ (h₅ : ltb most_reports (length seeds / 16) ≡ false) where
-          pub cause-6 : payload_too_large n (report_count n seeds shares) shares ≡ true → 6 ≡ (judged causes []).number
-          cause-6 h = rw (h₁, h₃, h₄, h₅, h)
+          pub cause_6 : payload_too_large n (report_count n seeds shares) shares ≡ true → 6 ≡ (judged causes []).number
+          cause_6 h = rw (h₁, h₃, h₄, h₅, h)
 
           module _ (h₆ : payload_too_large n (report_count n seeds shares) shares ≡ false) where
-            pub cause-7 : spare_bits_set n (report_count n seeds shares) shares ≡ true → 7 ≡ (judged causes []).number
-            cause-7 h = rw (h₁, h₃, h₄, h₅, h₆, h)
+            pub cause_7 : spare_bits_set n (report_count n seeds shares) shares ≡ true → 7 ≡ (judged causes []).number
+            cause_7 h = rw (h₁, h₃, h₄, h₅, h₆, h)
 
             module _ (h₇ : spare_bits_set n (report_count n seeds shares) shares ≡ false) where
-              pub cause-9 : is_query n query ≡ false → 9 ≡ (judged causes []).number
-              cause-9 h = rw (h₁, h₃, h₄, h₅, h₆, h₇, h)
+              pub cause_9 : is_query n query ≡ false → 9 ≡ (judged causes []).number
+              cause_9 h = rw (h₁, h₃, h₄, h₅, h₆, h₇, h)
 
               module _ (h₉ : is_query n query ≡ true) where
-                pub cause-11 : room < 8 * prefix_count query → 11 ≡ (judged causes []).number
-                cause-11 h = rw (h₁, h₃, h₄, h₅, h₆, h₇, h₉, lt-ltb room (8 * prefix_count query) h)
+                pub cause_11 : room < 8 * prefix_count query → 11 ≡ (judged causes []).number
+                cause_11 h = rw (h₁, h₃, h₄, h₅, h₆, h₇, h₉, lt-ltb room (8 * prefix_count query) h)
 
-                pub no-cause : 8 * prefix_count query ≤ room → 0 ≡ (judged causes []).number
-                no-cause h = rw (h₁, h₃, h₄, h₅, h₆, h₇, h₉, le-ltb room (8 * prefix_count query) h)
+                pub no_cause : 8 * prefix_count query ≤ room → 0 ≡ (judged causes []).number
+                no_cause h = rw (h₁, h₃, h₄, h₅, h₆, h₇, h₉, le-ltb room (8 * prefix_count query) h)
 
 -- ---- what follows where no cause applies
 
@@ -76,14 +76,14 @@ module _ (n e : ℕ) (seeds shares query : List ℕ) (room : ℕ) where
 -- and the sums fit.
 pub record Ready (n e : ℕ) (seeds shares query : List ℕ) (room : ℕ) : Type 0 where
   pub some_bits : 1 ≤ n
-  pub not-longer : n ≤ 256
+  pub not_longer : n ≤ 256
   pub known : is_expander e ≡ true
-  pub whole-seeds : length seeds ≡ 16 * report_count n seeds shares
-  pub whole-shares : length shares ≡ public_share_length n * report_count n seeds shares
+  pub whole_seeds : length seeds ≡ 16 * report_count n seeds shares
+  pub whole_shares : length shares ≡ public_share_length n * report_count n seeds shares
   pub few : report_count n seeds shares ≤ most_reports
   pub payloads : (i : ℕ) → i < report_count n seeds shares → payloads_below p n (public_share_at n shares i) ≡ true
   pub spares : (i : ℕ) → i < report_count n seeds shares → spare_bits_zero n (public_share_at n shares i) ≡ true
-  pub a-query : is_query n query ≡ true
+  pub a_query_lem : is_query n query ≡ true
   pub fits : 8 * prefix_count query ≤ room
 
 -- a length without remainder
@@ -92,7 +92,7 @@ whole len w h = omega (arith, div-add-mod' len w, mul_comm w (len / w))
 
 module _ (n e : ℕ) (seeds shares query : List ℕ) (room : ℕ) where
   pub clear : (judged (causes n e seeds shares query room) []).number ≡ 0 → Clear (causes n e seeds shares query room)
-  clear = judged-clear (causes n e seeds shares query room) []
+  clear = judged_clear (causes n e seeds shares query room) []
       (omega arith, (omega arith, (omega arith, (omega arith, (omega arith, (omega arith, (omega arith, (omega arith, tt))))))))
 
   pub ready : (judged (causes n e seeds shares query room) []).number ≡ 0 → Ready n e seeds shares query room
@@ -105,51 +105,51 @@ module _ (n e : ℕ) (seeds shares query : List ℕ) (room : ℕ) where
       let count : report_count n seeds shares ≡ length seeds / 16 = min-eq_left (omega (arith, same)) in
       record {
         some_bits = inside.0;
-        not-longer = inside.1;
+        not_longer = inside.1;
         known = not-false _ t.1.0;
-        whole-seeds = rw count (whole (length seeds) 16 (eqb-true _ 0 (not-false _ l.0)));
-        whole-shares = rw (count, same) (whole (length shares) (public_share_length n) (eqb-true _ 0 (not-false _ m.0)));
+        whole_seeds = rw count (whole (length seeds) 16 (eqb-true _ 0 (not-false _ l.0)));
+        whole_shares = rw (count, same) (whole (length shares) (public_share_length n) (eqb-true _ 0 (not-false _ m.0)));
         few = rw count (ltb-false most_reports (length seeds / 16) t.1.1.1.0);
-        payloads = every-at (report_count n seeds shares) (λ i. payloads_below p n (public_share_at n shares i)) (not-false _ t.1.1.1.1.0);
-        spares = every-at (report_count n seeds shares) (λ i. spare_bits_zero n (public_share_at n shares i)) (not-false _ t.1.1.1.1.1.0);
-        a-query = not-false _ t.1.1.1.1.1.1.0;
+        payloads = every_at (report_count n seeds shares) (λ i. payloads_below p n (public_share_at n shares i)) (not-false _ t.1.1.1.1.0);
+        spares = every_at (report_count n seeds shares) (λ i. spare_bits_zero n (public_share_at n shares i)) (not-false _ t.1.1.1.1.1.0);
+        a_query_lem = not-false _ t.1.1.1.1.1.1.0;
         fits = ltb-false room (8 * prefix_count query) t.1.1.1.1.1.1.1.0;
       }
 
 -- ---- the outcome
 
 module _ (n e : ℕ) (b : Bool) (seeds shares query : List ℕ) (room : ℕ) where
-  pub outcome-number : {k : ℕ} → k ≡ (judged (causes n e seeds shares query room) []).number → k ≡ (share_outcome n e b seeds shares query room).number
+  pub outcome_number : {k : ℕ} → k ≡ (judged (causes n e seeds shares query room) []).number → k ≡ (share_outcome n e b seeds shares query room).number
   unfolding share_outcome
-  outcome-number h = h ∙ judged-number (causes n e seeds shares query room) [] _
+  outcome_number h = h ∙ judged_number (causes n e seeds shares query room) [] _
 
   -- a refusal
-  pub outcome-refused : {k : ℕ} → k ≡ (judged (causes n e seeds shares query room) []).number → (k ≡ 0 → ⊥) → (share_outcome n e b seeds shares query room).written ≡ []
+  pub outcome_refused : {k : ℕ} → k ≡ (judged (causes n e seeds shares query room) []).number → (k ≡ 0 → ⊥) → (share_outcome n e b seeds shares query room).written ≡ []
   unfolding share_outcome
-  outcome-refused h z = judged-refused (causes n e seeds shares query room) _ (λ y. z (h ∙ judged-number (causes n e seeds shares query room) [] _ ∙ y))
+  outcome_refused h z = judged_refused (causes n e seeds shares query room) _ (λ y. z (h ∙ judged_number (causes n e seeds shares query room) [] _ ∙ y))
 
   -- success
-  pub outcome-accepted : (x : Expander) → choice_of e ≡ Known x → (judged (causes n e seeds shares query room) []).number ≡ 0
+  pub outcome_accepted : (x : Expander) → choice_of e ≡ Known x → (judged (causes n e seeds shares query room) []).number ≡ 0
       → share_outcome n e b seeds shares query room ≡ accepted (share_bytes n b seeds shares query x)
   unfolding share_outcome
-  outcome-accepted x c h =
-      judged-accepted (causes n e seeds shares query room) _ (clear n e seeds shares query room h) ∙ rw c
+  outcome_accepted x c h =
+      judged_accepted (causes n e seeds shares query room) _ (clear n e seeds shares query room h) ∙ rw c
 
 -- an expander that is none is refused
-pub never-unknown : (n e : ℕ) (seeds shares query : List ℕ) (room : ℕ) → choice_of e ≡ Unknown → (judged (causes n e seeds shares query room) []).number ≡ 0 → ⊥
-never-unknown n e seeds shares query room c h =
+pub never_unknown : (n e : ℕ) (seeds shares query : List ℕ) (room : ℕ) → choice_of e ≡ Unknown → (judged (causes n e seeds shares query room) []).number ≡ 0 → ⊥
+never_unknown n e seeds shares query room c h =
     let k : is_expander e ≡ true = (ready n e seeds shares query room h).known in
     let u : is_expander e ≡ false = unknown e c in
     let z : ◌≡◌ {A = ℕ} 0 1 = cc in
     omega arith
 
-pub prefixes-length : (query : List ℕ) → length (prefixes_of query) ≡ prefix_count query
-prefixes-length query =
+pub prefixes_length : (query : List ℕ) → length (prefixes_of query) ≡ prefix_count query
+prefixes_length query =
     length-map (packed_prefixes query) (unpack (prefix_length query))
-    ∙ parts-length (packed_length (prefix_length query)) (prefix_count query) (drop 6 query)
+    ∙ parts_length (packed_length (prefix_length query)) (prefix_count query) (drop 6 query)
 
 -- 8 bytes for each prefix
-pub bytes-length : (n : ℕ) (b : Bool) (seeds shares query : List ℕ) (x : Expander) → length (share_bytes n b seeds shares query x) ≡ 8 * prefix_count query
+pub bytes_length : (n : ℕ) (b : Bool) (seeds shares query : List ℕ) (x : Expander) → length (share_bytes n b seeds shares query x) ≡ 8 * prefix_count query
 unfolding share_bytes
-bytes-length n b seeds shares query x =
-    totals-length (λ (q : Bits). server_sum x n b seeds shares all_count (bit_of q) (length q)) (prefixes_of query) ∙ ap (λ (m : ℕ). 8 * m) (prefixes-length query)
+bytes_length n b seeds shares query x =
+    totals_length (λ (q : Bits). server_sum x n b seeds shares all_count (bit_of q) (length q)) (prefixes_of query) ∙ ap (λ (m : ℕ). 8 * m) (prefixes_length query)

@@ -9,53 +9,53 @@ use Rattle.report_sums.specs.Reports.{sum_where}
 
 module _ {A : Type 0} (G : Group A) where
   -- tests that agree below m give the same sum
-  pub sum-agree : (f g : ℕ → Bool) (m : ℕ) (h : ℕ → A) → ((i : ℕ) → i < m → f i ≡ g i) → sum_where G f m h ≡ sum_where G g m h
+  pub sum_agree : (f g : ℕ → Bool) (m : ℕ) (h : ℕ → A) → ((i : ℕ) → i < m → f i ≡ g i) → sum_where G f m h ≡ sum_where G g m h
   unfolding sum_where
-  sum-agree f g zero h e = refl
-  sum-agree f g (suc m) h e =
-      ap₂ (λ (b : Bool) (s : A). cond b (G.add s (h m)) s) (e m (omega arith)) (sum-agree f g m h (λ i l. e i (omega arith)))
+  sum_agree f g zero h e = refl
+  sum_agree f g (suc m) h e =
+      ap₂ (λ (b : Bool) (s : A). cond b (G.add s (h m)) s) (e m (omega arith)) (sum_agree f g m h (λ i l. e i (omega arith)))
 
   -- the sum of the same values is the same
-  pub sum-values : (f : ℕ → Bool) (m : ℕ) (h k : ℕ → A) → ((i : ℕ) → i < m → h i ≡ k i) → sum_where G f m h ≡ sum_where G f m k
+  pub sum_values : (f : ℕ → Bool) (m : ℕ) (h k : ℕ → A) → ((i : ℕ) → i < m → h i ≡ k i) → sum_where G f m h ≡ sum_where G f m k
   unfolding sum_where
-  sum-values f zero h k e = refl
-  sum-values f (suc m) h k e =
-      ap₂ (λ (x s : A). cond (f m) (G.add s x) s) (e m (omega arith)) (sum-values f m h k (λ i l. e i (omega arith)))
+  sum_values f zero h k e = refl
+  sum_values f (suc m) h k e =
+      ap₂ (λ (x s : A). cond (f m) (G.add s x) s) (e m (omega arith)) (sum_values f m h k (λ i l. e i (omega arith)))
 
   -- where no place passes the sum is zero
-  pub sum-none : (f : ℕ → Bool) (m : ℕ) (h : ℕ → A) → ((i : ℕ) → i < m → f i ≡ false) → sum_where G f m h ≡ G.zero
+  pub sum_none : (f : ℕ → Bool) (m : ℕ) (h : ℕ → A) → ((i : ℕ) → i < m → f i ≡ false) → sum_where G f m h ≡ G.zero
   unfolding sum_where
-  sum-none f zero h e = refl
-  sum-none f (suc m) h e = rw (e m (omega arith)) (sum-none f m h (λ i l. e i (omega arith)))
+  sum_none f zero h e = refl
+  sum_none f (suc m) h e = rw (e m (omega arith)) (sum_none f m h (λ i l. e i (omega arith)))
 
   module _ {In : A → Type 0} (L : CommutativeGroup A G In) where
-    open L use {comm, assoc, in-add, in-zero}
+    open L use {comm, assoc, in_add, in_zero}
 
     -- a sum is the written form of an element
-    pub sum-in : (f : ℕ → Bool) (m : ℕ) (h : ℕ → A) → In (sum_where G f m h)
+    pub sum_in : (f : ℕ → Bool) (m : ℕ) (h : ℕ → A) → In (sum_where G f m h)
     unfolding sum_where
-    sum-in f zero h = in-zero
-    sum-in f (suc m) h = go (f m) (sum-in f m h)
+    sum_in f zero h = in_zero
+    sum_in f (suc m) h = go (f m) (sum_in f m h)
       where
         go : (b : Bool) → In (sum_where G f m h) → In (cond b (G.add (sum_where G f m h) (h m)) (sum_where G f m h))
-        go true i = in-add _ _
+        go true i = in_add _ _
         go false i = i
 
     exchange : (x y z : A) → G.add (G.add x y) z ≡ G.add (G.add x z) y
     exchange x y z = assoc x y z ∙ ap (G.add x) (comm y z) ∙ sym (assoc x z y)
 
     -- two tests that agree below m but at one place, which the second alone passes
-    pub sum-one-more : (f g : ℕ → Bool) (i : ℕ) (h : ℕ → A) → f i ≡ false → g i ≡ true
+    pub sum_one_more : (f g : ℕ → Bool) (i : ℕ) (h : ℕ → A) → f i ≡ false → g i ≡ true
         → (m : ℕ) → i < m → ((k : ℕ) → k < m → (k ≡ i → ⊥) → f k ≡ g k) → sum_where G g m h ≡ G.add (sum_where G f m h) (h i)
     unfolding sum_where
-    sum-one-more f g i h no-f yes-g zero l e = absurd (omega arith)
-    sum-one-more f g i h no-f yes-g (suc m) l e = elim (dec_lt i m) [
-      | yes a ↦ go (f m) (g m) (e m (omega arith) (λ z. absurd (omega arith))) (sum-one-more f g i h no-f yes-g m a (λ k b. e k (omega arith)))
+    sum_one_more f g i h no-f yes-g zero l e = absurd (omega arith)
+    sum_one_more f g i h no-f yes-g (suc m) l e = elim (dec_lt i m) [
+      | yes a ↦ go (f m) (g m) (e m (omega arith) (λ z. absurd (omega arith))) (sum_one_more f g i h no-f yes-g m a (λ k b. e k (omega arith)))
       | no a ↦
           let z : m ≡ i = omega arith in
           let fz : f m ≡ false = ap f z ∙ no-f in
           let gz : g m ≡ true = ap g z ∙ yes-g in
-          rw (fz, gz) (ap₂ G.add (sum-agree g f m h (λ k b. sym (e k (omega arith) (λ y. absurd (omega arith))))) (ap h z))
+          rw (fz, gz) (ap₂ G.add (sum_agree g f m h (λ k b. sym (e k (omega arith) (λ y. absurd (omega arith))))) (ap h z))
     ]
       where
         go : (b c : Bool) → b ≡ c → sum_where G g m h ≡ G.add (sum_where G f m h) (h i)

@@ -8,32 +8,32 @@ use mathlib.Core.List.{List, [], map}
 use borrow.Author.Tests.{eq-eqb, ne_eqb}
 use lib.ListN.{length, replicate, length-map, length-replicate}
 use Rattle.places.specs.Places.{overlay}
-use Rattle.places.proofs.Places.{overlay-nil, overlay-length}
+use Rattle.places.proofs.Places.{overlay_nil, overlay_length}
 use Rattle.calls.specs.Causes.{number_due}
 use Rattle.calls.specs.Outcome.{Outcome}
 use Rattle.calls.specs.declared.Reply.{Reply}
-use Rattle.calls.proofs.Judged.{number-clear}
+use Rattle.calls.proofs.Judged.{number_clear}
 use Rattle.expander.specs.declared.Choice.{Choice}
 use Rattle.query.specs.Query.{prefix_count, prefixes_of}
 use Rattle.point.specs.Node as point
 use Rattle.nodes.specs.declared.Node.{Node}
 use Rattle.nodes.specs.NodeLayout.{node_of}
-use Rattle.tree.proofs.Lengths.{totals-length}
-use Rattle.parents.proofs.Last.{prefixes-length}
+use Rattle.tree.proofs.Lengths.{totals_length}
+use Rattle.parents.proofs.Last.{prefixes_length}
 use Rattle.node_lists.specs.NodeList.{kept_share}
 use Rattle.node_lists.specs.ShareKept.{KeptLent, lent, kept_causes, kept_outcome, KeptExit, kept_exit, kept_left}
-use Rattle.node_lists.proofs.KeptOutcome.{kept_number, Ready, clear-ready, kept-number, kept-refused, nodes-refused, kept-accepted, nodes-accepted}
+use Rattle.node_lists.proofs.KeptOutcome.{kept_number, Ready, clear_ready, kept_number_lem, kept_refused, nodes_refused, kept_accepted, nodes_accepted}
 use Rattle.turns.specs.declared.Task.{Task}
 use Rattle.turns.specs.declared.Place.{Place}
 use Rattle.turns.specs.Turns.{refused_task, task_under, task_of, cleared, reply_of, first_place, place_at, nodes_at, sums_at}
-use Rattle.in_place.proofs.Lengths.{first-left}
+use Rattle.in_place.proofs.Lengths.{first_left}
 use Rattle.in_place.proofs.Level.{new_count}
-use Rattle.in_place.proofs.Found.{task, turns-within, nodes-end, sums-end}
+use Rattle.in_place.proofs.Found.{task, turns_within, nodes_end, sums_end}
 
 -- what is returned and left, part by part
-exit-parts : {r : Reply} {area : List ℕ} {nodes : List point.Node} (x : KeptExit) → r.number ≡ x.number → r.length ≡ x.length → area ≡ x.area
+exit_parts : {r : Reply} {area : List ℕ} {nodes : List point.Node} (x : KeptExit) → r.number ≡ x.number → r.length ≡ x.length → area ≡ x.area
     → nodes ≡ x.nodes → kept_left r area nodes ≡ x
-exit-parts x a b c d = rw (a, b, c, d)
+exit_parts x a b c d = rw (a, b, c, d)
 
 module _ (n e : ℕ) (b : Bool) (shares last query : List ℕ) (l : List Node) (area : List ℕ) where
   -- the call
@@ -57,78 +57,78 @@ module _ (n e : ℕ) (b : Bool) (shares last query : List ℕ) (l : List Node) (
 
   -- ---- a refusal
 
-  refused-task : (number ≡ 0 → ⊥) → task_of n e b shares last query (length l) (length area) ≡ refused_task number
+  refused_task_lem : (number ≡ 0 → ⊥) → task_of n e b shares last query (length l) (length area) ≡ refused_task number
   unfolding task_of
-  refused-task h = rw (ne_eqb number 0 h)
+  refused_task_lem h = rw (ne_eqb number 0 h)
 
-  nothing-cleared : cleared (refused_task number) area ≡ area
+  nothing_cleared : cleared (refused_task number) area ≡ area
   unfolding cleared
-  nothing-cleared = overlay-nil area
+  nothing_cleared = overlay_nil area
 
-  refused-folds : (number ≡ 0 → ⊥) → Folds (refused_task number)
+  refused_folds : (number ≡ 0 → ⊥) → Folds (refused_task number)
   unfolding nodes_at sums_at reply_of
-  refused-folds h =
+  refused_folds h =
       let t : Task = refused_task number in
-      let none : (first_place t last query).left ≡ 0 = first-left t last query in
+      let none : (first_place t last query).left ≡ 0 = first_left t last query in
       let k : kept_number call ≡ 0 → ⊥ = λ z. h (sym same_number ∙ z) in
-      let written : (kept_outcome call).written ≡ [] = kept-refused call k in
+      let written : (kept_outcome call).written ≡ [] = kept_refused call k in
       record {
-        as_long = ap length nothing-cleared;
+        as_long = ap length nothing_cleared;
         within = λ s i. absurd (omega arith);
-        folded = exit-parts (kept_exit call)
-            (sym (kept-number call ∙ same_number))
+        folded = exit_parts (kept_exit call)
+            (sym (kept_number_lem call ∙ same_number))
             (sym (ap length written))
-            (ap (sums_at t shares last query (first_place t last query) l (cleared t area)) none ∙ nothing-cleared
-            ∙ sym (ap (λ (w : List ℕ). overlay w area) written ∙ overlay-nil area))
-            (ap (λ (s : ℕ). map node_of (nodes_at t shares last query (first_place t last query) l s)) none ∙ sym (nodes-refused call k));
+            (ap (sums_at t shares last query (first_place t last query) l (cleared t area)) none ∙ nothing_cleared
+            ∙ sym (ap (λ (w : List ℕ). overlay w area) written ∙ overlay_nil area))
+            (ap (λ (s : ℕ). map node_of (nodes_at t shares last query (first_place t last query) l s)) none ∙ sym (nodes_refused call k));
       }
 
   -- ---- where no cause applies
 
   module _ (h : number ≡ 0) where
-    call-ready : Ready n e shares last query (length l) (length area)
-    call-ready =
-        clear-ready n e shares last query (length l) (length area)
-        (number-clear (kept_causes n e shares last query (length l) (length area))
+    call_ready : Ready n e shares last query (length l) (length area)
+    call_ready =
+        clear_ready n e shares last query (length l) (length area)
+        (number_clear (kept_causes n e shares last query (length l) (length area))
         (omega arith, (omega arith, (omega arith, (omega arith, (omega arith, (omega arith, (omega arith, (omega arith, (omega arith, (omega arith, tt)))))))))) h)
 
-    accepted-task : task_of n e b shares last query (length l) (length area) ≡ task n e b shares last query l area call-ready
+    accepted_task : task_of n e b shares last query (length l) (length area) ≡ task n e b shares last query l area call_ready
     unfolding task_of
-    accepted-task =
-        rw (eq-eqb number 0 h) (ap (λ (c : Choice). task_under c n b shares last query) call-ready.chosen)
+    accepted_task =
+        rw (eq-eqb number 0 h) (ap (λ (c : Choice). task_under c n b shares last query) call_ready.chosen)
 
-    share-size : length (kept_share n shares last (map node_of l) call-ready.expander b query) ≡ 8 * prefix_count query
+    share_size : length (kept_share n shares last (map node_of l) call_ready.expander b query) ≡ 8 * prefix_count query
     unfolding kept_share
-    share-size = totals-length _ (prefixes_of query) ∙ ap (λ (k : ℕ). 8 * k) (prefixes-length query)
+    share_size = totals_length _ (prefixes_of query) ∙ ap (λ (k : ℕ). 8 * k) (prefixes_length query)
 
-    accepted-folds : Folds (task n e b shares last query l area call-ready)
+    accepted_folds : Folds (task n e b shares last query l area call_ready)
     unfolding cleared reply_of
-    accepted-folds =
-        let r : Ready n e shares last query (length l) (length area) = call-ready in
+    accepted_folds =
+        let r : Ready n e shares last query (length l) (length area) = call_ready in
         let t : Task = task n e b shares last query l area r in
-        let all : (first_place t last query).left ≡ new_count t + new_count t = first-left t last query ∙ omega arith in
-        let zero-due : (kept_outcome call).number ≡ 0 = kept-number call ∙ same_number ∙ h in
-        let outcome = kept-accepted call r.expander r.chosen zero-due in
+        let all : (first_place t last query).left ≡ new_count t + new_count t = first_left t last query ∙ omega arith in
+        let zero-due : (kept_outcome call).number ≡ 0 = kept_number_lem call ∙ same_number ∙ h in
+        let outcome = kept_accepted call r.expander r.chosen zero-due in
         let bytes : List ℕ = kept_share n shares last (map node_of l) r.expander b query in
         let written : (kept_outcome call).written ≡ bytes = ap (λ (o : Outcome). o.written) outcome in
         record {
-          as_long = overlay-length (replicate (8 * prefix_count query) 0) area (omega (arith, length-replicate {A = ℕ} (8 * prefix_count query) 0, r.fits));
-          within = λ s i. turns-within n e b shares last query l area r s (omega arith);
-          folded = exit-parts (kept_exit call)
+          as_long = overlay_length (replicate (8 * prefix_count query) 0) area (omega (arith, length-replicate {A = ℕ} (8 * prefix_count query) 0, r.fits));
+          within = λ s i. turns_within n e b shares last query l area r s (omega arith);
+          folded = exit_parts (kept_exit call)
               (sym zero-due)
-              (sym (ap length written ∙ share-size))
-              (ap (sums_at t shares last query (first_place t last query) l (cleared t area)) all ∙ sums-end n e b shares last query l area r
+              (sym (ap length written ∙ share_size))
+              (ap (sums_at t shares last query (first_place t last query) l (cleared t area)) all ∙ sums_end n e b shares last query l area r
               ∙ sym (ap (λ (w : List ℕ). overlay w area) written))
-              (ap (λ (s : ℕ). map node_of (nodes_at t shares last query (first_place t last query) l s)) all ∙ nodes-end n e b shares last query l area r
-              ∙ sym (nodes-accepted call r.expander r.chosen zero-due));
+              (ap (λ (s : ℕ). map node_of (nodes_at t shares last query (first_place t last query) l s)) all ∙ nodes_end n e b shares last query l area r
+              ∙ sym (nodes_accepted call r.expander r.chosen zero-due));
         }
 
   -- ---- either way
 
   pub folds : Folds (task_of n e b shares last query (length l) (length area))
   folds = elim (ℕ_discrete number 0) [
-    | yes h ↦ subst Folds (sym (accepted-task h)) (accepted-folds h)
-    | no h ↦ subst Folds (sym (refused-task h)) (refused-folds h)
+    | yes h ↦ subst Folds (sym (accepted_task h)) (accepted_folds h)
+    | no h ↦ subst Folds (sym (refused_task_lem h)) (refused_folds h)
   ]
 
   -- its task, and the first place
@@ -142,6 +142,6 @@ module _ (n e : ℕ) (b : Bool) (shares last query : List ℕ) (l : List Node) (
       → ((place_at task_here shares last query first_here s).source < length l) × ((place_at task_here shares last query first_here s).target < length l)
   within_first = folds.within
 
-  pub share-folded : kept_left (reply_of task_here) (sums_at task_here shares last query first_here l (cleared task_here area) first_here.left)
+  pub share_folded : kept_left (reply_of task_here) (sums_at task_here shares last query first_here l (cleared task_here area) first_here.left)
       (map node_of (nodes_at task_here shares last query first_here l first_here.left)) ≡ kept_exit (lent n e b shares last query (map node_of l) area)
-  share-folded = folds.folded
+  share_folded = folds.folded

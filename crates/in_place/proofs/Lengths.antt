@@ -18,25 +18,25 @@ either_left left x h false true = refl
 either_left left x h false false = h
 
 -- the turns left are those that were asked for
-pub placed-left : (t : Task) (last query : List ℕ) (left hint : ℕ) → (place_for t last query left hint).left ≡ left
+pub placed_left : (t : Task) (last query : List ℕ) (left hint : ℕ) → (place_for t last query left hint).left ≡ left
 unfolding place_for
-placed-left t last query left hint = either_left left _ refl (eqb left 0) (eqb (t.reports * t.after) 0)
+placed_left t last query left hint = either_left left _ refl (eqb left 0) (eqb (t.reports * t.after) 0)
 
-pub first-left : (t : Task) (last query : List ℕ) → (first_place t last query).left ≡ 2 * (t.reports * t.after)
+pub first_left : (t : Task) (last query : List ℕ) → (first_place t last query).left ≡ 2 * (t.reports * t.after)
 unfolding first_place
-first-left t last query = placed-left t last query (2 * (t.reports * t.after)) 0
+first_left t last query = placed_left t last query (2 * (t.reports * t.after)) 0
 
-pub next-left : (t : Task) (last query : List ℕ) (at : Place) → (next_place t last query at).left ≡ at.left - 1
+pub next_left : (t : Task) (last query : List ℕ) (at : Place) → (next_place t last query at).left ≡ at.left - 1
 unfolding next_place
-next-left t last query at = placed-left t last query (at.left - 1) at.parent
+next_left t last query at = placed_left t last query (at.left - 1) at.parent
 
 module _ (t : Task) (shares last query : List ℕ) (p : Place) where
-  pub place-left : (s : ℕ) → (place_at t shares last query p s).left ≡ p.left - s
+  pub place_left : (s : ℕ) → (place_at t shares last query p s).left ≡ p.left - s
   unfolding place_at
-  place-left zero = omega arith
-  place-left (suc s) = next-left t last query (place_at t shares last query p s) ∙ omega (arith, place-left s)
+  place_left zero = omega arith
+  place_left (suc s) = next_left t last query (place_at t shares last query p s) ∙ omega (arith, place_left s)
 
-  pub nodes-length : (l : List Node) (s : ℕ) → length (nodes_at t shares last query p l s) ≡ length l
+  pub nodes_length : (l : List Node) (s : ℕ) → length (nodes_at t shares last query p l s) ≡ length l
   unfolding nodes_at
-  nodes-length l zero = refl
-  nodes-length l (suc s) = length-set (nodes_at t shares last query p l s) _ _ ∙ nodes-length l s
+  nodes_length l zero = refl
+  nodes_length l (suc s) = length-set (nodes_at t shares last query p l s) _ _ ∙ nodes_length l s

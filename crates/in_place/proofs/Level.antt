@@ -23,9 +23,9 @@ use Rattle.parents.specs.Lookup.{is_parent, looked_up}
 use Rattle.turns.specs.declared.Task.{Task}
 use Rattle.turns.specs.declared.Place.{Place}
 use Rattle.turns.specs.Turns.{struct_of, no_struct, place_for, first_place, next_place, turned_node, turned_sums, place_at, nodes_at, sums_at}
-use Rattle.in_place.proofs.InTurns.{target_of, due_of, Stands, stands-first, reads_old, stands-due, stands-not}
+use Rattle.in_place.proofs.InTurns.{target_of, due_of, Stands, stands_first, reads_old, stands_due, stands_not}
 use Rattle.in_place.proofs.Sources.{source_of}
-use Rattle.in_place.proofs.SumsInTurns.{SumsStand, sums-not, sums-due}
+use Rattle.in_place.proofs.SumsInTurns.{SumsStand, sums_not, sums_due}
 
 -- how many new nodes a task makes
 abbrev pub new_count : Task → ℕ
@@ -49,15 +49,15 @@ left_up N s h = elim (dec_lt s N) [
   | no a ↦ le-ltb N (N + N - s) (omega arith) ∙ sym (le-ltb s N (omega arith))
 ]
 
-left-target : (N s : ℕ) → s < N + N → cond (ltb s N) (N + N - (N + N - s)) (N + N - s - 1) ≡ target_of N s
-left-target N s h =
+left_target : (N s : ℕ) → s < N + N → cond (ltb s N) (N + N - (N + N - s)) (N + N - s - 1) ≡ target_of N s
+left_target N s h =
     let e : N + N - (N + N - s) ≡ s = omega arith in
     let k : N + N - s - 1 ≡ N + N - suc s = omega arith in
     ap₂ (λ (x y : ℕ). cond (ltb s N) x y) e k
 
-after-some : (r m : ℕ) → 0 < r * m → 0 < m
-after-some r zero h = absurd (omega arith)
-after-some r (suc m) h = omega arith
+after_some : (r m : ℕ) → 0 < r * m → 0 < m
+after_some r zero h = absurd (omega arith)
+after_some r (suc m) h = omega arith
 
 module _ (t : Task) (shares last query : List ℕ) (π : ℕ → ℕ) where
   -- turn s
@@ -80,10 +80,10 @@ module _ (t : Task) (shares last query : List ℕ) (π : ℕ → ℕ) where
     unfolding place_for
     placed s hint h =
         let N : ℕ = new_count t in
-        let some : 0 < t.after = after-some t.reports t.after (omega arith) in
+        let some : 0 < t.after = after_some t.reports t.after (omega arith) in
         let a : eqb (N + N - s) 0 ≡ false = ne_eqb (N + N - s) 0 (λ z. omega arith) in
         let b : eqb N 0 ≡ false = ne_eqb N 0 (λ z. omega arith) in
-        rw (a, b, left_up N s h, left-target N s h, found (target_of N s % t.after) (mod-lt (target_of N s) some) (ltb s N) hint)
+        rw (a, b, left_up N s h, left_target N s h, found (target_of N s % t.after) (mod-lt (target_of N s) some) (ltb s N) hint)
 
     -- the place after s turns
     pub place_is : (s : ℕ) → s < new_count t + new_count t → place_at t shares last query (first_place t last query) s ≡ turn_of s
@@ -107,19 +107,19 @@ module _ (t : Task) (shares last query : List ℕ) (π : ℕ → ℕ) where
       abbrev pub nodes_now : ℕ → List Node
       nodes_now s = nodes_at t shares last query (first_place t last query) l s
 
-      pub nodes-stand : (s : ℕ) → s ≤ new_count t + new_count t → Stands (new_count t) S (made t shares query) no_struct l s (nodes_now s)
+      pub nodes_stand : (s : ℕ) → s ≤ new_count t + new_count t → Stands (new_count t) S (made t shares query) no_struct l s (nodes_now s)
       unfolding nodes_at turned_node
-      nodes-stand zero h = stands-first (new_count t) S (made t shares query) no_struct l
-      nodes-stand (suc s) h =
-          rw (place_is s (omega arith)) (go (due_of (new_count t) S s) refl (nodes-stand s (omega arith)))
+      nodes_stand zero h = stands_first (new_count t) S (made t shares query) no_struct l
+      nodes_stand (suc s) h =
+          rw (place_is s (omega arith)) (go (due_of (new_count t) S s) refl (nodes_stand s (omega arith)))
         where
           go : (b : Bool) → due_of (new_count t) S s ≡ b → Stands (new_count t) S (made t shares query) no_struct l s (nodes_now s)
               → Stands (new_count t) S (made t shares query) no_struct l (suc s)
               (set (nodes_now s) (target_of (new_count t) s) (turned_node t shares query (turn_of s) (get_or (nodes_now s) (turn_of s).source no_struct)))
-          go true e g = rw e (stands-due (new_count t) S (made t shares query) no_struct l rises room s (omega arith) (nodes_now s) g e)
+          go true e g = rw e (stands_due (new_count t) S (made t shares query) no_struct l rises room s (omega arith) (nodes_now s) g e)
           go false e g =
               rw (e, set-get_or (nodes_now s) (target_of (new_count t) s) no_struct)
-              (stands-not (new_count t) S (made t shares query) no_struct l rises room s (omega arith) (nodes_now s) g e)
+              (stands_not (new_count t) S (made t shares query) no_struct l rises room s (omega arith) (nodes_now s) g e)
 
       -- the server's share of report i at prefix j
       abbrev pub share_of : ℕ → ℕ → ℕ
@@ -130,11 +130,11 @@ module _ (t : Task) (shares last query : List ℕ) (π : ℕ → ℕ) where
         abbrev pub sums_now : ℕ → List ℕ
         sums_now s = sums_at t shares last query (first_place t last query) l o s
 
-        pub sums-stand : (s : ℕ) → s ≤ new_count t + new_count t → SumsStand t.reports t.after S share_of rest s (sums_now s)
+        pub sums_stand : (s : ℕ) → s ≤ new_count t + new_count t → SumsStand t.reports t.after S share_of rest s (sums_now s)
         unfolding sums_at turned_sums
-        sums-stand zero h = first
-        sums-stand (suc s) h =
-            rw (place_is s (omega arith)) (go (due_of (new_count t) S s) refl (sums-stand s (omega arith)))
+        sums_stand zero h = first
+        sums_stand (suc s) h =
+            rw (place_is s (omega arith)) (go (due_of (new_count t) S s) refl (sums_stand s (omega arith)))
           where
             go : (b : Bool) → due_of (new_count t) S s ≡ b → SumsStand t.reports t.after S share_of rest s (sums_now s)
                 → SumsStand t.reports t.after S share_of rest (suc s)
@@ -142,8 +142,8 @@ module _ (t : Task) (shares last query : List ℕ) (π : ℕ → ℕ) where
             go true e g =
                 let T : ℕ = target_of (new_count t) s in
                 let old : get_or (nodes_now s) (S T) no_struct ≡ get_or l (S T) no_struct =
-                reads_old (new_count t) S (made t shares query) no_struct l rises room s (omega arith) (nodes_now s) (nodes-stand s (omega arith)) e in
+                reads_old (new_count t) S (made t shares query) no_struct l rises room s (omega arith) (nodes_now s) (nodes_stand s (omega arith)) e in
                 rw e
-                (sums-due t.reports t.after S share_of rest s (omega arith) (sums_now s) g (after-some t.reports t.after (omega arith)) e _
+                (sums_due t.reports t.after S share_of rest s (omega arith) (sums_now s) g (after_some t.reports t.after (omega arith)) e _
                 (ap (λ (m : Node). share_below (scheme t.expander) t.server (word_of t shares (T / t.after)) (bit_at t query (T % t.after)) (node_of m)) old))
-            go false e g = rw e (sums-not t.reports t.after S share_of rest s (omega arith) (sums_now s) g e)
+            go false e g = rw e (sums_not t.reports t.after S share_of rest s (omega arith) (sums_now s) g e)

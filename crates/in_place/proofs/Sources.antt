@@ -6,16 +6,16 @@ use native.Mathlib.Nat.{mod-lt, div-add-mod', div-lt_iff_lt-mul, mul-le-mul_righ
 use mathlib.Core.Path.{◌≡◌, ap, ◌∙◌}
 
 -- the parts of a place: report i of m prefixes each, prefix j
-pub report-of : (i j m : ℕ) → j < m → (i * m + j) / m ≡ i
-report-of i j m h =
+pub report_of : (i j m : ℕ) → j < m → (i * m + j) / m ≡ i
+report_of i j m h =
     let some : 0 < m = omega arith in
     mul-add-div_right some i j ∙ ap (λ (k : ℕ). i + k) (div-eq_of_lt h) ∙ add-zero i
 
-pub prefix-of : (i j m : ℕ) → j < m → (i * m + j) % m ≡ j
-prefix-of i j m h = mul-add-mod_self_right i m j ∙ mod-eq_of_lt h
+pub prefix_of : (i j m : ℕ) → j < m → (i * m + j) % m ≡ j
+prefix_of i j m h = mul-add-mod_self_right i m j ∙ mod-eq_of_lt h
 
-pub report-below : (x m r : ℕ) → 0 < m → x < r * m → x / m < r
-report-below x m r some h = (div-lt_iff_lt-mul some).1 h
+pub report_below : (x m r : ℕ) → 0 < m → x < r * m → x / m < r
+report_below x m r some h = (div-lt_iff_lt-mul some).1 h
 
 -- report i of r, prefix j of m
 pub place_inside : (i j m r : ℕ) → i < r → j < m → i * m + j < r * m
@@ -27,12 +27,12 @@ module _ (before after : ℕ) (π : ℕ → ℕ) where
   source_of T = T / after * before + π (T % after)
 
   module _ (some : 0 < after) (below : (j : ℕ) → j < after → π j < before) where
-    pub source-below : (r T : ℕ) → T < r * after → source_of T < r * before
-    source-below r T h = place_inside (T / after) (π (T % after)) before r (report-below T after r some h) (below (T % after) (mod-lt T some))
+    pub source_below : (r T : ℕ) → T < r * after → source_of T < r * before
+    source_below r T h = place_inside (T / after) (π (T % after)) before r (report_below T after r some h) (below (T % after) (mod-lt T some))
 
     -- they rise where those of one report do
-    pub sources-rise : ((i j : ℕ) → i ≤ j → j < after → π i ≤ π j) → (x y : ℕ) → x ≤ y → source_of x ≤ source_of y
-    sources-rise rise x y h =
+    pub sources_rise : ((i j : ℕ) → i ≤ j → j < after → π i ≤ π j) → (x y : ℕ) → x ≤ y → source_of x ≤ source_of y
+    sources_rise rise x y h =
         let x-at = div-add-mod' x after in
         let y-at = div-add-mod' y after in
         let x-mod = mod-lt x some in

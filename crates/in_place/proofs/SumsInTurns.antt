@@ -14,10 +14,10 @@ use Rattle.group.specs.Modular.{modulus, field}
 use Rattle.group.proofs.Modular.{field_laws}
 use Rattle.report_sums.specs.Reports.{all_count, sum_where}
 use Rattle.turns.specs.Turns.{added_at}
-use Rattle.in_place.proofs.AnyOrder.{sum-agree, sum-none, sum-in, sum-one-more}
-use Rattle.in_place.proofs.InTurns.{target_of, target_below, due_of, done, none_done, all_done, other-done, not-due-done, due-before, due-after}
-use Rattle.in_place.proofs.Sources.{report-of, prefix-of, report-below, place_inside}
-use Rattle.in_place.proofs.Added.{added-number}
+use Rattle.in_place.proofs.AnyOrder.{sum_agree, sum_none, sum_in, sum_one_more}
+use Rattle.in_place.proofs.InTurns.{target_of, target_below, due_of, done, none_done, all_done, other_done, not_due_done, due_before, due_after}
+use Rattle.in_place.proofs.Sources.{report_of, prefix_of, report_below, place_inside}
+use Rattle.in_place.proofs.Added.{added_number}
 
 -- r reports of m prefixes each, and the value of each report at each prefix
 module _ {A : Type 0} (G : Group A) {In : A → Type 0} (L : CommutativeGroup A G In) (r m : ℕ) (S : ℕ → ℕ) (h : ℕ → ℕ → A) where
@@ -27,39 +27,39 @@ module _ {A : Type 0} (G : Group A) {In : A → Type 0} (L : CommutativeGroup A 
 
   pub sum_first : (j : ℕ) → j < m → sum_after 0 j ≡ G.zero
   sum_first j l =
-      sum-none G (λ i. done (r * m) S 0 (i * m + j)) r (λ i. h i j) (λ i k. none_done (r * m) S (i * m + j) (place_inside i j m r k l))
+      sum_none G (λ i. done (r * m) S 0 (i * m + j)) r (λ i. h i j) (λ i k. none_done (r * m) S (i * m + j) (place_inside i j m r k l))
 
-  pub sum-last : (s j : ℕ) → s ≡ r * m + r * m → j < m → sum_after s j ≡ sum_where G all_count r (λ i. h i j)
-  sum-last s j e l =
-      sum-agree G (λ i. done (r * m) S s (i * m + j)) all_count r (λ i. h i j) (λ i k. all_done (r * m) S s (i * m + j) e (place_inside i j m r k l))
+  pub sum_last : (s j : ℕ) → s ≡ r * m + r * m → j < m → sum_after s j ≡ sum_where G all_count r (λ i. h i j)
+  sum_last s j e l =
+      sum_agree G (λ i. done (r * m) S s (i * m + j)) all_count r (λ i. h i j) (λ i k. all_done (r * m) S s (i * m + j) e (place_inside i j m r k l))
 
   module _ (s : ℕ) (inside : s < r * m + r * m) where
     -- a turn that is not due changes no sum
-    pub sum-not : due_of (r * m) S s ≡ false → (j : ℕ) → j < m → sum_after (suc s) j ≡ sum_after s j
-    sum-not e j l =
-        sum-agree G (λ i. done (r * m) S (suc s) (i * m + j)) (λ i. done (r * m) S s (i * m + j)) r (λ i. h i j)
-        (λ i k. not-due-done (r * m) S s (i * m + j) inside (place_inside i j m r k l) e)
+    pub sum_not : due_of (r * m) S s ≡ false → (j : ℕ) → j < m → sum_after (suc s) j ≡ sum_after s j
+    sum_not e j l =
+        sum_agree G (λ i. done (r * m) S (suc s) (i * m + j)) (λ i. done (r * m) S s (i * m + j)) r (λ i. h i j)
+        (λ i k. not_due_done (r * m) S s (i * m + j) inside (place_inside i j m r k l) e)
 
     -- one that is due changes none but that of its prefix
-    pub sum-other : (j : ℕ) → j < m → (j ≡ target_of (r * m) s % m → ⊥) → sum_after (suc s) j ≡ sum_after s j
-    sum-other j l other =
-        sum-agree G (λ i. done (r * m) S (suc s) (i * m + j)) (λ i. done (r * m) S s (i * m + j)) r (λ i. h i j)
-        (λ i k. other-done (r * m) S s (i * m + j) inside (place_inside i j m r k l) (λ z. other (sym (prefix-of i j m l) ∙ ap (λ (x : ℕ). x % m) z)))
+    pub sum_other : (j : ℕ) → j < m → (j ≡ target_of (r * m) s % m → ⊥) → sum_after (suc s) j ≡ sum_after s j
+    sum_other j l other =
+        sum_agree G (λ i. done (r * m) S (suc s) (i * m + j)) (λ i. done (r * m) S s (i * m + j)) r (λ i. h i j)
+        (λ i k. other_done (r * m) S s (i * m + j) inside (place_inside i j m r k l) (λ z. other (sym (prefix_of i j m l) ∙ ap (λ (x : ℕ). x % m) z)))
 
     -- and adds its value to that
-    pub sum-due : 0 < m → due_of (r * m) S s ≡ true
+    pub sum_due : 0 < m → due_of (r * m) S s ≡ true
         → sum_after (suc s) (target_of (r * m) s % m) ≡ G.add (sum_after s (target_of (r * m) s % m)) (h (target_of (r * m) s / m) (target_of (r * m) s % m))
-    sum-due some e =
+    sum_due some e =
         let x : ℕ = target_of (r * m) s in
         let j : ℕ = target_of (r * m) s % m in
         let l : j < m = mod-lt x some in
         let whole : x / m * m + x % m ≡ x = div-add-mod' x m in
-        sum-one-more G L (λ i. done (r * m) S s (i * m + j)) (λ i. done (r * m) S (suc s) (i * m + j)) (x / m) (λ i. h i j)
-        (ap (done (r * m) S s) whole ∙ due-before (r * m) S s inside e)
-        (ap (done (r * m) S (suc s)) whole ∙ due-after (r * m) S s inside e)
-        r (report-below x m r some (target_below (r * m) s inside))
-        (λ i k other. sym (other-done (r * m) S s (i * m + j) inside (place_inside i j m r k l)
-        (λ z. other (sym (report-of i j m l) ∙ ap (λ (y : ℕ). y / m) z))))
+        sum_one_more G L (λ i. done (r * m) S s (i * m + j)) (λ i. done (r * m) S (suc s) (i * m + j)) (x / m) (λ i. h i j)
+        (ap (done (r * m) S s) whole ∙ due_before (r * m) S s inside e)
+        (ap (done (r * m) S (suc s)) whole ∙ due_after (r * m) S s inside e)
+        r (report_below x m r some (target_below (r * m) s inside))
+        (λ i k other. sym (other_done (r * m) S s (i * m + j) inside (place_inside i j m r k l)
+        (λ z. other (sym (report_of i j m l) ∙ ap (λ (y : ℕ). y / m) z))))
 
 -- ---- in bytes
 
@@ -80,33 +80,33 @@ module _ (r m : ℕ) (S : ℕ → ℕ) (h : ℕ → ℕ → ℕ) (rest : List �
   }
 
   module _ (s : ℕ) (inside : s < r * m + r * m) (o : List ℕ) (g : SumsStand s o) where
-    pub sums-not : due_of (r * m) S s ≡ false → SumsStand (suc s) o
-    sums-not e = record {
+    pub sums_not : due_of (r * m) S s ≡ false → SumsStand (suc s) o
+    sums_not e = record {
       numbers = g.numbers;
       parts = g.parts;
       size = g.size;
-      value = λ j l. g.value j l ∙ sym (sum-not field field_laws r m S h s inside e j l);
+      value = λ j l. g.value j l ∙ sym (sum_not field field_laws r m S h s inside e j l);
     }
 
-    pub sums-due : 0 < m → due_of (r * m) S s ≡ true → (v : ℕ) → v ≡ h (target_of (r * m) s / m) (target_of (r * m) s % m)
+    pub sums_due : 0 < m → due_of (r * m) S s ≡ true → (v : ℕ) → v ≡ h (target_of (r * m) s / m) (target_of (r * m) s % m)
         → SumsStand (suc s) (added_at (target_of (r * m) s % m) v o)
-    sums-due some e v is =
+    sums_due some e v is =
         let j₀ : ℕ = target_of (r * m) s % m in
         let l₀ : j₀ < m = mod-lt (target_of (r * m) s) some in
         let old : ℕ = get_or g.numbers j₀ 0 in
         let new : ℕ = field.add old v in
         let k : j₀ < length g.numbers = rw g.size l₀ in
-        let small : old < 256 ^ 8 = rw (g.value j₀ l₀) (bound (sum-in field field_laws (λ i. done (r * m) S s (i * m + j₀)) r (λ i. h i j₀))) in
+        let small : old < 256 ^ 8 = rw (g.value j₀ l₀) (bound (sum_in field field_laws (λ i. done (r * m) S s (i * m + j₀)) r (λ i. h i j₀))) in
         record {
           numbers = set g.numbers j₀ new;
-          parts = ap (added_at j₀ v) g.parts ∙ added-number rest g.numbers j₀ k v small;
+          parts = ap (added_at j₀ v) g.parts ∙ added_number rest g.numbers j₀ k v small;
           size = length-set g.numbers j₀ new ∙ g.size;
           value = λ j l. elim (ℕ_discrete j j₀) [
             | yes q ↦
                 ap (λ (y : ℕ). get_or (set g.numbers j₀ new) y 0) q ∙ get_or-set_same g.numbers j₀ new 0 k
                 ∙ ap (λ (y : ℕ). field.add y v) (g.value j₀ l₀) ∙ ap (field.add (sum_after field field_laws r m S h s j₀)) is
-                ∙ sym (sum-due field field_laws r m S h s inside some e) ∙ ap (sum_after field field_laws r m S h (suc s)) (sym q)
-            | no q ↦ get_or-set_other g.numbers j₀ j new 0 q ∙ g.value j l ∙ sym (sum-other field field_laws r m S h s inside j l q)
+                ∙ sym (sum_due field field_laws r m S h s inside some e) ∙ ap (sum_after field field_laws r m S h (suc s)) (sym q)
+            | no q ↦ get_or-set_other g.numbers j₀ j new 0 q ∙ g.value j l ∙ sym (sum_other field field_laws r m S h s inside j l q)
           ];
         }
       where

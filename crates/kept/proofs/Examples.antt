@@ -9,5 +9,5 @@ pub edge : (reaches 2 1 ≡ false) × (reaches 2 2 ≡ true) × (reaches 2 3 ≡
 edge = (refl, refl, refl)
 
 -- of `0` with 2, `1` with 1 and `00` with 3, the first and the last are kept
-pub two-kept : kept (reaches 2) ((false ∷ []) ∷ (true ∷ []) ∷ (false ∷ false ∷ []) ∷ []) (2 ∷ 1 ∷ 3 ∷ []) ≡ ((false ∷ []) ∷ (false ∷ false ∷ []) ∷ [])
-two-kept = refl
+pub two_kept : kept (reaches 2) ((false ∷ []) ∷ (true ∷ []) ∷ (false ∷ false ∷ []) ∷ []) (2 ∷ 1 ∷ 3 ∷ []) ≡ ((false ∷ []) ∷ (false ∷ false ∷ []) ∷ [])
+two_kept = refl

@@ -28,15 +28,15 @@ module _ (z : ℤ) (fits : SFits w64 z) where
   read : to_z w64 (of_z w64 z) ≡ z
   read = to_z-of_z w64 z fits
 
-  pub below-zero : (t : ℕ) → lt_z (to_z w64 (of_z w64 z)) (pos 0) ≡ true → false ≡ le_z (pos t) z
-  below-zero t e = negative t z (ap (λ (y : ℤ). lt_z y (pos 0)) (sym read) ∙ e)
+  pub below_zero : (t : ℕ) → lt_z (to_z w64 (of_z w64 z)) (pos 0) ≡ true → false ≡ le_z (pos t) z
+  below_zero t e = negative t z (ap (λ (y : ℤ). lt_z y (pos 0)) (sym read) ∙ e)
 
   module _ (e : lt_z (to_z w64 (of_z w64 z)) (pos 0) ≡ false) where
     least : lt_z z (pos 0) ≡ false
     least = ap (λ (y : ℤ). lt_z y (pos 0)) (sym read) ∙ e
 
-    pub as-word : T (non_neg (to_z w64 (of_z w64 z))) × Fits w64 (nat_abs (to_z w64 (of_z w64 z)))
-    as-word = subst (λ (y : ℤ). T (non_neg y) × Fits w64 (nat_abs y)) (sym read) (word z fits least)
+    pub as_word : T (non_neg (to_z w64 (of_z w64 z))) × Fits w64 (nat_abs (to_z w64 (of_z w64 z)))
+    as_word = subst (λ (y : ℤ). T (non_neg y) × Fits w64 (nat_abs y)) (sym read) (word z fits least)
 
     pub from_zero : (t : ℕ) → leb t (nat_abs (to_z w64 (of_z w64 z))) ≡ le_z (pos t) z
     from_zero t = ap (λ (y : ℤ). leb t (nat_abs y)) read ∙ others t z least

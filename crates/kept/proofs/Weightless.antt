@@ -5,9 +5,9 @@ use mathlib.Core.Path.{◌≡◌, refl, ◌∙◌}
 use mathlib.Core.Bool.{Bool, true, false}
 use borrow.Author.Tests.{le-leb}
 use Rattle.group.specs.Modular.{modulus}
-use Rattle.signed.proofs.Embedding.{reads-at-least}
+use Rattle.signed.proofs.Embedding.{reads_at_least}
 use Rattle.kept.specs.Kept.{reaches, reaches_as}
 
-pub reaches-either : (weighted : Bool) (t x : ℕ) → x ≤ (modulus - 1) / 2 → reaches_as weighted t x ≡ reaches t x
-reaches-either false t x h = refl
-reaches-either true t x h = reads-at-least modulus x t (omega arith) ∙ rw (le-leb x ((modulus - 1) / 2) h)
+pub reaches_either : (weighted : Bool) (t x : ℕ) → x ≤ (modulus - 1) / 2 → reaches_as weighted t x ≡ reaches t x
+reaches_either false t x h = refl
+reaches_either true t x h = reads_at_least modulus x t (omega arith) ∙ rw (le-leb x ((modulus - 1) / 2) h)

@@ -23,17 +23,17 @@ module _ (n e : ℕ) (b : Bool) (shares last query : List ℕ) (l : List Node) (
   abbrev first : Place
   first = first_place task last query
 
-  pub share-folded : (r : Reply) (l' : List Node) (o' : List ℕ) → r ≡ reply_of task → l' ≡ nodes_at task shares last query first l first.left
+  pub share_folded : (r : Reply) (l' : List Node) (o' : List ℕ) → r ≡ reply_of task → l' ≡ nodes_at task shares last query first l first.left
       → o' ≡ sums_at task shares last query first l (cleared task o) first.left
       → kept_left r o' (map node_of l') ≡ kept_exit (lent n e b shares last query (map node_of l) o)
-  share-folded r l' o' f g h =
+  share_folded r l' o' f g h =
       let same : kept_left r o' (map node_of l')
       ≡ kept_left (reply_of task) (sums_at task shares last query first l (cleared task o) first.left)
       (map node_of (nodes_at task shares last query first l first.left)) = λ i. kept_left (f i) (h i) (map node_of (g i)) in
-      same ∙ turned.share-folded n e b shares last query l o
+      same ∙ turned.share_folded n e b shares last query l o
 
-pub roots-folded : (b : Bool) (seeds : List ℕ) (l : List Node) (r : ℕ) (l' : List Node) → r ≡ (filling_first seeds (length l)).number
+pub roots_folded : (b : Bool) (seeds : List ℕ) (l : List Node) (r : ℕ) (l' : List Node) → r ≡ (filling_first seeds (length l)).number
     → l' ≡ filled_at b seeds (filling_first seeds (length l)) l (filling_first seeds (length l)).left
     → (r ≡ roots_number seeds (length l)) × (map node_of l' ≡ roots_after b seeds (map node_of l))
 unfolding filling_first
-roots-folded b seeds l r l' f g = (f, ap (map node_of) g ∙ roots.roots-folded b seeds l)
+roots_folded b seeds l r l' f g = (f, ap (map node_of) g ∙ roots.roots_folded b seeds l)

@@ -14,25 +14,25 @@ use Rattle.node_lists.specs.Filling.{root_node, filling_next, filling_at, filled
 -- ---- the turns of a query
 
 module _ (t : Task) (shares last query : List ℕ) (p : Place) (l : List Node) where
-  pub nodes-more : (s : ℕ) (v : Node) → v ≡ turned_node t shares query (place_at t shares last query p s) (get_or (nodes_at t shares last query p l s) (place_at t shares last query p s).source no_struct) → set (nodes_at t shares last query p l s) (place_at t shares last query p s).target v ≡ nodes_at t shares last query p l (suc s)
+  pub nodes_more : (s : ℕ) (v : Node) → v ≡ turned_node t shares query (place_at t shares last query p s) (get_or (nodes_at t shares last query p l s) (place_at t shares last query p s).source no_struct) → set (nodes_at t shares last query p l s) (place_at t shares last query p s).target v ≡ nodes_at t shares last query p l (suc s)
   unfolding nodes_at
-  nodes-more s v e = ap (set (nodes_at t shares last query p l s) (place_at t shares last query p s).target) e
+  nodes_more s v e = ap (set (nodes_at t shares last query p l s) (place_at t shares last query p s).target) e
 
-  pub nodes-none : l ≡ nodes_at t shares last query p l 0
+  pub nodes_none : l ≡ nodes_at t shares last query p l 0
   unfolding nodes_at
-  nodes-none = refl
+  nodes_none = refl
 
-  pub place-more : (s : ℕ) (r : Place) → r ≡ next_place t last query (place_at t shares last query p s) → r ≡ place_at t shares last query p (suc s)
+  pub place_more : (s : ℕ) (r : Place) → r ≡ next_place t last query (place_at t shares last query p s) → r ≡ place_at t shares last query p (suc s)
   unfolding place_at
-  place-more s r e = e
+  place_more s r e = e
 
   pub place_none : p ≡ place_at t shares last query p 0
   unfolding place_at
   place_none = refl
 
-  pub sums-more : (o : List ℕ) (s : ℕ) (zs : List ℕ) → zs ≡ turned_sums t shares query (place_at t shares last query p s) (get_or (nodes_at t shares last query p l s) (place_at t shares last query p s).source no_struct) (sums_at t shares last query p l o s) → zs ≡ sums_at t shares last query p l o (suc s)
+  pub sums_more : (o : List ℕ) (s : ℕ) (zs : List ℕ) → zs ≡ turned_sums t shares query (place_at t shares last query p s) (get_or (nodes_at t shares last query p l s) (place_at t shares last query p s).source no_struct) (sums_at t shares last query p l o s) → zs ≡ sums_at t shares last query p l o (suc s)
   unfolding sums_at
-  sums-more o s zs e = e
+  sums_more o s zs e = e
 
   pub sums_none : (o : List ℕ) → o ≡ sums_at t shares last query p l o 0
   unfolding sums_at
@@ -49,10 +49,10 @@ module _ (b : Bool) (seeds : List ℕ) (p : Filling) (l : List Node) where
   unfolding filled_at
   filled_none = refl
 
-  pub filling-more : (s : ℕ) (r : Filling) → r ≡ filling_next (filling_at b seeds p s) → r ≡ filling_at b seeds p (suc s)
+  pub filling_more : (s : ℕ) (r : Filling) → r ≡ filling_next (filling_at b seeds p s) → r ≡ filling_at b seeds p (suc s)
   unfolding filling_at
-  filling-more s r e = e
+  filling_more s r e = e
 
-  pub filling-none : p ≡ filling_at b seeds p 0
+  pub filling_none : p ≡ filling_at b seeds p 0
   unfolding filling_at
-  filling-none = refl
+  filling_none = refl

@@ -36,7 +36,7 @@ abbrev line_a : Line
 line_a = record { string = true ∷ []; seed0 = replicate 16 0; seed1 = 1 ∷ replicate 15 0 }
 
 -- its page
-pub page-A : line_page 1 line_a Classroom
+pub page_a : line_page 1 line_a Classroom
     ≡ 99 ∷ 111 ∷ 110 ∷ 116 ∷ 114 ∷ 111 ∷ 108 ∷ 32 ∷ 48 ∷ 49 ∷ 10 ∷ 108 ∷ 101 ∷ 118 ∷ 101 ∷ 108 ∷ 32 ∷ 49 ∷ 32 ∷ 49 ∷ 32 ∷ 48 ∷ 32 ∷ 48 ∷ 50 ∷ 48 ∷
     48 ∷ 48 ∷ 48 ∷ 48 ∷ 48 ∷ 48 ∷ 48 ∷ 48 ∷ 48 ∷ 48 ∷ 48 ∷ 48 ∷ 48 ∷ 48 ∷ 51 ∷ 48 ∷ 48 ∷ 48 ∷ 48 ∷ 48 ∷ 48 ∷ 48 ∷ 48 ∷ 48 ∷ 48 ∷ 48 ∷ 48 ∷ 48 ∷
     48 ∷ 32 ∷ 48 ∷ 49 ∷ 48 ∷ 48 ∷ 48 ∷ 48 ∷ 48 ∷ 48 ∷ 48 ∷ 48 ∷ 48 ∷ 48 ∷ 48 ∷ 48 ∷ 48 ∷ 48 ∷ 10 ∷ 112 ∷ 114 ∷ 101 ∷ 102 ∷ 105 ∷ 120 ∷ 32 ∷ 49 ∷
@@ -44,7 +44,7 @@ pub page-A : line_page 1 line_a Classroom
     115 ∷ 105 ∷ 100 ∷ 101 ∷ 32 ∷ 48 ∷ 32 ∷ 53 ∷ 32 ∷ 49 ∷ 56 ∷ 52 ∷ 52 ∷ 54 ∷ 55 ∷ 52 ∷ 52 ∷ 48 ∷ 54 ∷ 57 ∷ 52 ∷ 49 ∷ 52 ∷ 53 ∷ 56 ∷ 52 ∷ 51 ∷
     49 ∷ 54 ∷ 32 ∷ 48 ∷ 10 ∷ []
 unfolding keys prints
-page-A = refl
+page_a = refl
 
 -- a line of three bits
 abbrev line_three : Line
@@ -55,7 +55,7 @@ line_three = record {
 }
 
 -- its page
-pub page-three : line_page 3 line_three Classroom
+pub page_three : line_page 3 line_three Classroom
     ≡ 99 ∷ 111 ∷ 110 ∷ 116 ∷ 114 ∷ 111 ∷ 108 ∷ 32 ∷ 50 ∷ 53 ∷ 10 ∷ 108 ∷ 101 ∷ 118 ∷ 101 ∷ 108 ∷ 32 ∷ 49 ∷ 32 ∷ 49 ∷ 32 ∷ 48 ∷ 32 ∷ 48 ∷ 101 ∷ 48 ∷
     48 ∷ 48 ∷ 48 ∷ 48 ∷ 48 ∷ 48 ∷ 48 ∷ 48 ∷ 48 ∷ 48 ∷ 48 ∷ 48 ∷ 48 ∷ 48 ∷ 56 ∷ 48 ∷ 48 ∷ 48 ∷ 48 ∷ 48 ∷ 48 ∷ 48 ∷ 48 ∷ 48 ∷ 48 ∷ 48 ∷ 48 ∷ 48 ∷
     48 ∷ 32 ∷ 48 ∷ 48 ∷ 48 ∷ 48 ∷ 48 ∷ 48 ∷ 48 ∷ 48 ∷ 102 ∷ 102 ∷ 102 ∷ 102 ∷ 102 ∷ 102 ∷ 102 ∷ 102 ∷ 10 ∷ 108 ∷ 101 ∷ 118 ∷ 101 ∷ 108 ∷ 32 ∷ 50 ∷
@@ -73,4 +73,4 @@ pub page-three : line_page 3 line_three Classroom
     32 ∷ 49 ∷ 48 ∷ 48 ∷ 32 ∷ 49 ∷ 52 ∷ 32 ∷ 49 ∷ 56 ∷ 52 ∷ 52 ∷ 54 ∷ 55 ∷ 52 ∷ 52 ∷ 48 ∷ 54 ∷ 57 ∷ 52 ∷ 49 ∷ 52 ∷ 53 ∷ 56 ∷ 52 ∷ 51 ∷ 48 ∷ 55 ∷
     32 ∷ 48 ∷ 10 ∷ []
 unfolding keys prints
-page-three = refl
+page_three = refl

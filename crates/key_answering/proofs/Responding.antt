@@ -17,44 +17,44 @@ use Rattle.exam_lines.specs.Lines.{written_in, refused_text, refused_outcome}
 use Rattle.key_answering.specs.KeyAnswer.{line_page, key_line_outcome, key_output, respond_outcome}
 
 module _ (bytes : List ℕ) where
-  pub none-output : is_key_line bytes ≡ false → key_output bytes ≡ refused_text 10
+  pub none_output : is_key_line bytes ≡ false → key_output bytes ≡ refused_text 10
   unfolding key_output key_line_outcome read_key_line
-  none-output e = rw e
+  none_output e = rw e
 
   module _ (e : is_key_line bytes ≡ true) where
-    pub no-bits-output : (key_line_of bytes).n < 1 → key_output bytes ≡ refused_text 1
+    pub no_bits_output : (key_line_of bytes).n < 1 → key_output bytes ≡ refused_text 1
     unfolding key_output key_line_outcome read_key_line
-    no-bits-output h = rw (e, lt-ltb (key_line_of bytes).n 1 h)
+    no_bits_output h = rw (e, lt-ltb (key_line_of bytes).n 1 h)
 
     module _ (from : 1 ≤ (key_line_of bytes).n) (to : (key_line_of bytes).n ≤ 32) where
-      in-range : outside most_bits (key_line_of bytes).n ≡ false
-      in-range = in_bounds most_bits (key_line_of bytes).n from (omega arith)
+      in_range : outside most_bits (key_line_of bytes).n ≡ false
+      in_range = in_bounds most_bits (key_line_of bytes).n from (omega arith)
 
-      pub unknown-output : choice_of (key_line_of bytes).expander ≡ Unknown → key_output bytes ≡ refused_text 3
+      pub unknown_output : choice_of (key_line_of bytes).expander ≡ Unknown → key_output bytes ≡ refused_text 3
       unfolding key_output key_line_outcome read_key_line
-      unknown-output u = rw (e, in-range, unknown (key_line_of bytes).expander u)
+      unknown_output u = rw (e, in_range, unknown (key_line_of bytes).expander u)
 
-      pub known-output : (x : Expander) → choice_of (key_line_of bytes).expander ≡ Known x → key_output bytes ≡ line_page (key_line_of bytes).n (key_line_of bytes).line x
+      pub known_output : (x : Expander) → choice_of (key_line_of bytes).expander ≡ Known x → key_output bytes ≡ line_page (key_line_of bytes).n (key_line_of bytes).line x
       unfolding key_output key_line_outcome read_key_line
-      known-output x k =
-          rw (e, in-range, known (key_line_of bytes).expander x k) (ap (λ (c : Choice). under c (line_page (key_line_of bytes).n (key_line_of bytes).line)) k)
+      known_output x k =
+          rw (e, in_range, known (key_line_of bytes).expander x k) (ap (λ (c : Choice). under c (line_page (key_line_of bytes).n (key_line_of bytes).line)) k)
 
   -- The same in a space of this length.
   module _ (room : ℕ) where
-    pub none-responds : is_key_line bytes ≡ false → refused_outcome 10 room ≡ respond_outcome bytes room
+    pub none_responds : is_key_line bytes ≡ false → refused_outcome 10 room ≡ respond_outcome bytes room
     unfolding refused_outcome respond_outcome
-    none-responds e = rw (none-output e)
+    none_responds e = rw (none_output e)
 
-    pub no-bits-responds : is_key_line bytes ≡ true → (key_line_of bytes).n < 1 → refused_outcome 1 room ≡ respond_outcome bytes room
+    pub no_bits_responds : is_key_line bytes ≡ true → (key_line_of bytes).n < 1 → refused_outcome 1 room ≡ respond_outcome bytes room
     unfolding refused_outcome respond_outcome
-    no-bits-responds e h = rw (no-bits-output e h)
+    no_bits_responds e h = rw (no_bits_output e h)
 
-    pub unknown-responds : is_key_line bytes ≡ true → 1 ≤ (key_line_of bytes).n → (key_line_of bytes).n ≤ 32 → choice_of (key_line_of bytes).expander ≡ Unknown
+    pub unknown_responds : is_key_line bytes ≡ true → 1 ≤ (key_line_of bytes).n → (key_line_of bytes).n ≤ 32 → choice_of (key_line_of bytes).expander ≡ Unknown
         → refused_outcome 3 room ≡ respond_outcome bytes room
     unfolding refused_outcome respond_outcome
-    unknown-responds e from to u = rw (unknown-output e from to u)
+    unknown_responds e from to u = rw (unknown_output e from to u)
 
-    pub page-responds : is_key_line bytes ≡ true → 1 ≤ (key_line_of bytes).n → (key_line_of bytes).n ≤ 32 → (x : Expander) → choice_of (key_line_of bytes).expander ≡ Known x
+    pub page_responds : is_key_line bytes ≡ true → 1 ≤ (key_line_of bytes).n → (key_line_of bytes).n ≤ 32 → (x : Expander) → choice_of (key_line_of bytes).expander ≡ Known x
         → written_in (line_page (key_line_of bytes).n (key_line_of bytes).line x) room ≡ respond_outcome bytes room
     unfolding respond_outcome
-    page-responds e from to x k = rw (known-output e from to x k)
+    page_responds e from to x k = rw (known_output e from to x k)

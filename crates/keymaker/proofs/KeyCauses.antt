@@ -14,7 +14,7 @@ use Rattle.calls.specs.Bounds.{most_bits}
 use Rattle.calls.specs.Causes.{number_due}
 use Rattle.calls.specs.Outcome.{accepted}
 use Rattle.calls.proofs.Decisions.{neither, bounds}
-use Rattle.calls.proofs.Judged.{judged-due, judged-refused, judged-accepted, judged-clear}
+use Rattle.calls.proofs.Judged.{judged_due, judged_refused, judged_accepted, judged_clear}
 use Rattle.expander.specs.Expander.{choice_of, is_expander, under}
 use Rattle.expander.specs.declared.Expander.{Expander}
 use Rattle.expander.specs.declared.Choice.{Choice}
@@ -27,22 +27,22 @@ module _ (n e : ℕ) (w : ℤ) (string seed0 seed1 : List ℕ) (room : ℕ) wher
   abbrev bytes : List ℕ
   bytes = under (choice_of e) (key_bytes n w string seed0 seed1)
 
-  pub due-number : (key_outcome n e w string seed0 seed1 room).number ≡ number_due (key_causes n e string seed0 seed1 room)
+  pub due_number : (key_outcome n e w string seed0 seed1 room).number ≡ number_due (key_causes n e string seed0 seed1 room)
   unfolding key_outcome
-  due-number = judged-due (key_causes n e string seed0 seed1 room) bytes
+  due_number = judged_due (key_causes n e string seed0 seed1 room) bytes
 
   pub nothing_written : (key_outcome n e w string seed0 seed1 room).number ≢ 0 → (key_outcome n e w string seed0 seed1 room).written ≡ []
   unfolding key_outcome
-  nothing_written h = judged-refused (key_causes n e string seed0 seed1 room) bytes h
+  nothing_written h = judged_refused (key_causes n e string seed0 seed1 room) bytes h
 
   -- What follows from 0.
   pub record Ready : Type 0 where
     pub some : 1 ≤ n
     pub few : n ≤ 256
     pub expander : is_expander e ≡ true
-    pub string-length : length string ≡ packed_length n
-    pub seed0-length : length seed0 ≡ 16
-    pub seed1-length : length seed1 ≡ 16
+    pub string_length : length string ≡ packed_length n
+    pub seed0_length : length seed0 ≡ 16
+    pub seed1_length : length seed1 ≡ 16
     pub spare : spare_zero n string ≡ true
     pub fits : public_share_length n ≤ room
     pub outcome : key_outcome n e w string seed0 seed1 room ≡ accepted (under (choice_of e) (key_bytes n w string seed0 seed1))
@@ -50,7 +50,7 @@ module _ (n e : ℕ) (w : ℤ) (string seed0 seed1 : List ℕ) (room : ℕ) wher
   pub ready : (key_outcome n e w string seed0 seed1 room).number ≡ 0 → Ready
   unfolding key_outcome
   ready h =
-      let t = judged-clear (key_causes n e string seed0 seed1 room) bytes (omega arith, (omega arith, (omega arith, (omega arith, (omega arith, tt))))) h in
+      let t = judged_clear (key_causes n e string seed0 seed1 room) bytes (omega arith, (omega arith, (omega arith, (omega arith, (omega arith, tt))))) h in
       let inside = bounds most_bits n t.0 in
       let lengths = neither (not (eqb (length string) (packed_length n))) _ t.1.1.0 in
       let seeds = neither (not (eqb (length seed0) 16)) (not (eqb (length seed1) 16)) lengths.1 in
@@ -58,14 +58,14 @@ module _ (n e : ℕ) (w : ℤ) (string seed0 seed1 : List ℕ) (room : ℕ) wher
         some = inside.0;
         few = inside.1;
         expander = not-false (is_expander e) t.1.0;
-        string-length = eqb-true _ _ (not-false _ lengths.0);
-        seed0-length = eqb-true _ _ (not-false _ seeds.0);
-        seed1-length = eqb-true _ _ (not-false _ seeds.1);
+        string_length = eqb-true _ _ (not-false _ lengths.0);
+        seed0_length = eqb-true _ _ (not-false _ seeds.0);
+        seed1_length = eqb-true _ _ (not-false _ seeds.1);
         spare = not-false _ t.1.1.1.0;
         fits = ltb-false room (public_share_length n) t.1.1.1.1.0;
-        outcome = judged-accepted (key_causes n e string seed0 seed1 room) bytes t;
+        outcome = judged_accepted (key_causes n e string seed0 seed1 room) bytes t;
       }
 
   -- what is written under the expander that the number names
-  pub key-accepted : (x : Expander) → choice_of e ≡ Known x → Ready → key_outcome n e w string seed0 seed1 room ≡ accepted (key_bytes n w string seed0 seed1 x)
-  key-accepted x h r = r.outcome ∙ ap (λ (c : Choice). accepted (under c (key_bytes n w string seed0 seed1))) h
+  pub key_accepted : (x : Expander) → choice_of e ≡ Known x → Ready → key_outcome n e w string seed0 seed1 room ≡ accepted (key_bytes n w string seed0 seed1 x)
+  key_accepted x h r = r.outcome ∙ ap (λ (c : Choice). accepted (under c (key_bytes n w string seed0 seed1))) h

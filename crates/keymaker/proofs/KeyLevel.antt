@@ -11,16 +11,16 @@ use Rattle.point.specs.Node.{Node, child, payload_of}
 use Rattle.point.specs.Correction.{Correction, corrected}
 use Rattle.point.specs.Keys.{seed_correction, left_correction, right_correction, kept_child, payload_correction, correction}
 use Rattle.point.specs.Instance.{field_scheme, scheme}
-use Rattle.nodes.proofs.Nodes.{differ-xor}
+use Rattle.nodes.proofs.Nodes.{differ_xor}
 
 -- w − W0 + W1
 abbrev pub difference : ℕ → ℕ → ℕ → ℕ
 difference w w0 w1 = field.add (field.add w (field.neg w0)) w1
 
 -- a correction word from its parts
-same-correction : {s s' : List ℕ} {l l' r r' : Bool} {v v' : ℕ} → s ≡ s' → l ≡ l' → r ≡ r' → v ≡ v' →
+same_correction : {s s' : List ℕ} {l l' r r' : Bool} {v v' : ℕ} → s ≡ s' → l ≡ l' → r ≡ r' → v ≡ v' →
     ◌≡◌ {A = Correction ℕ} (record { seed = s; left = l; right = r; payload = v }) (record { seed = s'; left = l'; right = r'; payload = v' })
-same-correction e f g h = λ i. record { seed = e i; left = f i; right = g i; payload = h i }
+same_correction e f g h = λ i. record { seed = e i; left = f i; right = g i; payload = h i }
 
 module _ (S : Scheme ℕ) (a : Bool) where
   -- the lose seed
@@ -42,25 +42,25 @@ module _ (S : Scheme ℕ) (a : Bool) where
   -- Two nodes and their children.
   module _ (n0 n1 l0 r0 l1 r1 : Node)
       (f0 : l0 ≡ child S n0.seed false) (g0 : r0 ≡ child S n0.seed true) (f1 : l1 ≡ child S n1.seed false) (g1 : r1 ≡ child S n1.seed true) where
-    pub seed-made : xor_bytes (cond a l0.seed r0.seed) (cond a l1.seed r1.seed) ≡ seed_correction S a n0 n1
+    pub seed_made : xor_bytes (cond a l0.seed r0.seed) (cond a l1.seed r1.seed) ≡ seed_correction S a n0 n1
     unfolding seed_correction
-    seed-made = ap₂ xor_bytes (lose n0.seed l0 r0 f0 g0) (lose n1.seed l1 r1 f1 g1)
+    seed_made = ap₂ xor_bytes (lose n0.seed l0 r0 f0 g0) (lose n1.seed l1 r1 f1 g1)
 
-    pub left-made : not (beq (not (beq (not (beq l0.bit l1.bit)) a)) true) ≡ left_correction S a n0 n1
+    pub left_made : not (beq (not (beq (not (beq l0.bit l1.bit)) a)) true) ≡ left_correction S a n0 n1
     unfolding left_correction
-    left-made =
-        differ-xor _ true
-        ∙ ap (λ (x : Bool). xor x true) (differ-xor _ a ∙ ap (λ (x : Bool). xor x a) (differ-xor l0.bit l1.bit ∙ ap₂ xor (ap (λ (m : Node). m.bit) f0) (ap (λ (m : Node). m.bit) f1)))
+    left_made =
+        differ_xor _ true
+        ∙ ap (λ (x : Bool). xor x true) (differ_xor _ a ∙ ap (λ (x : Bool). xor x a) (differ_xor l0.bit l1.bit ∙ ap₂ xor (ap (λ (m : Node). m.bit) f0) (ap (λ (m : Node). m.bit) f1)))
 
-    pub right-made : not (beq (not (beq r0.bit r1.bit)) a) ≡ right_correction S a n0 n1
+    pub right_made : not (beq (not (beq r0.bit r1.bit)) a) ≡ right_correction S a n0 n1
     unfolding right_correction
-    right-made =
-        differ-xor _ a ∙ ap (λ (x : Bool). xor x a) (differ-xor r0.bit r1.bit ∙ ap₂ xor (ap (λ (m : Node). m.bit) g0) (ap (λ (m : Node). m.bit) g1))
+    right_made =
+        differ_xor _ a ∙ ap (λ (x : Bool). xor x a) (differ_xor r0.bit r1.bit ∙ ap₂ xor (ap (λ (m : Node). m.bit) g0) (ap (λ (m : Node). m.bit) g1))
 
-    pub kept-made : (n l r : Node) (s : List ℕ) (x y : Bool) → s ≡ seed_correction S a n0 n1 → x ≡ left_correction S a n0 n1 → y ≡ right_correction S a n0 n1
+    pub kept_made : (n l r : Node) (s : List ℕ) (x y : Bool) → s ≡ seed_correction S a n0 n1 → x ≡ left_correction S a n0 n1 → y ≡ right_correction S a n0 n1
         → l ≡ child S n.seed false → r ≡ child S n.seed true → corrected n.bit s (cond a y x) (cond a r l) ≡ kept_child S a n0 n1 n
     unfolding kept_child
-    kept-made n l r s x y h hl hr f g = cc (h, hl, hr, kept n.seed l r f g)
+    kept_made n l r s x y h hl hr f g = cc (h, hl, hr, kept n.seed l r f g)
 
 -- the correction word of a level, from the kept children
 pub word_made : (e : Expander) (w : ℕ) (a : Bool) (n0 n1 : Node) {s : List ℕ} {l r b : Bool} {w0 w1 v : ℕ}
@@ -69,4 +69,4 @@ pub word_made : (e : Expander) (w : ℕ) (a : Bool) (n0 n1 : Node) {s : List ℕ
     → b ≡ (kept_child (scheme e) a n0 n1 n1).bit → v ≡ cond b (field.neg (difference w w0 w1)) (difference w w0 w1)
     → ◌≡◌ {A = Correction ℕ} (record { seed = s; left = l; right = r; payload = v }) (correction (scheme e) a n0 n1 w)
 unfolding correction payload_correction field_scheme
-word_made e w a n0 n1 hs hl hr h0 h1 hb hv = same-correction hs hl hr (hv ∙ cc (h0, h1, hb))
+word_made e w a n0 n1 hs hl hr h0 h1 hb hv = same_correction hs hl hr (hv ∙ cc (h0, h1, hb))

@@ -9,10 +9,10 @@ use lib.IntN.{ℤ}
 use Rattle.places.specs.Places.{Bytes}
 use Rattle.bits.specs.Strings.{Bits}
 use Rattle.bits.specs.Packing.{packed_length, pack, spare_zero}
-use Rattle.bits.proofs.Packed.{pack-length, pack-spare_zero}
+use Rattle.bits.proofs.Packed.{pack_length, pack_spare_zero}
 use Rattle.calls.specs.Outcome.{accepted}
-use Rattle.calls.proofs.Decisions.{neither-test, in_bounds}
-use Rattle.calls.proofs.Judged.{judged-accepted, ◌&◌}
+use Rattle.calls.proofs.Decisions.{neither_test, in_bounds}
+use Rattle.calls.proofs.Judged.{judged_accepted, ◌&◌}
 use Rattle.expander.specs.Expander.{choice_of, under}
 use Rattle.expander.specs.declared.Expander.{Expander}
 use Rattle.expander.specs.declared.Choice.{Choice}
@@ -20,25 +20,25 @@ use Rattle.expander.specs.declared.Choice.TheVariants.{Known}
 use Rattle.expander.proofs.Chosen.{known}
 use Rattle.point.specs.PublicShare.{public_share_length}
 use Rattle.keymaker.specs.Key.{key_causes, key_bytes, key_outcome}
-use Rattle.keymaker.proofs.KeyTheorems.{bytes-pass}
+use Rattle.keymaker.proofs.KeyTheorems.{bytes_pass}
 
 module _ (n number : ℕ) (e : Expander) (named : choice_of number ≡ Known e) (w : ℤ) (s : Bits) (seed0 seed1 : List ℕ) (bits : length s ≡ n) (sized0 : Bytes 16 seed0)
     (sized1 : Bytes 16 seed1) where
-  packed-size : length (pack s) ≡ packed_length n
-  packed-size = pack-length s ∙ ap packed_length bits
+  packed_size : length (pack s) ≡ packed_length n
+  packed_size = pack_length s ∙ ap packed_length bits
 
-  pub key-made : 1 ≤ n → n ≤ 256 → (room : ℕ) → public_share_length n ≤ room
+  pub key_made : 1 ≤ n → n ≤ 256 → (room : ℕ) → public_share_length n ≤ room
       → key_outcome n number w (pack s) seed0 seed1 room ≡ accepted (key_bytes n w (pack s) seed0 seed1 e)
   unfolding key_outcome
-  key-made from to room fits =
-      let spare : spare_zero n (pack s) ≡ true = ap (λ (m : ℕ). spare_zero m (pack s)) (sym bits) ∙ pack-spare_zero s in
+  key_made from to room fits =
+      let spare : spare_zero n (pack s) ≡ true = ap (λ (m : ℕ). spare_zero m (pack s)) (sym bits) ∙ pack_spare_zero s in
       let lengths =
-      neither-test (ap not (eq-eqb (length (pack s)) (packed_length n) packed-size))
-      (neither-test (ap not (eq-eqb (length seed0) 16 sized0.size)) (ap not (eq-eqb (length seed1) 16 sized1.size))) in
-      judged-accepted (key_causes n number (pack s) seed0 seed1 room) _
+      neither_test (ap not (eq-eqb (length (pack s)) (packed_length n) packed_size))
+      (neither_test (ap not (eq-eqb (length seed0) 16 sized0.size)) (ap not (eq-eqb (length seed1) 16 sized1.size))) in
+      judged_accepted (key_causes n number (pack s) seed0 seed1 room) _
       (in_bounds 256 n from to & ap not (known number e named) & lengths & ap not spare & le-ltb room (public_share_length n) fits & tt)
       ∙ ap accepted (ap (λ (c : Choice). under c (key_bytes n w (pack s) seed0 seed1)) named)
 
   -- It has the length of a public share.
-  pub made-length : length (key_bytes n w (pack s) seed0 seed1 e) ≡ public_share_length n
-  made-length = (bytes-pass n w (pack s) seed0 seed1 packed-size sized0 sized1 e).0
+  pub made_length : length (key_bytes n w (pack s) seed0 seed1 e) ≡ public_share_length n
+  made_length = (bytes_pass n w (pack s) seed0 seed1 packed_size sized0 sized1 e).0

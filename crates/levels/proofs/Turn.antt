@@ -13,24 +13,24 @@ use Rattle.places.specs.Lists.{select, how_many}
 use Rattle.bits.specs.Strings.{Bits}
 use Rattle.bits.specs.Packing.{packed_length}
 use Rattle.places.specs.Places.{put_at}
-use Rattle.places.proofs.Places.{put_at-length}
+use Rattle.places.proofs.Places.{put_at_length}
 use Rattle.expander.specs.declared.Expander.{Expander}
 use Rattle.group.specs.Modular.{p}
 use Rattle.group.proofs.Modular.{field_laws}
 use Rattle.query.specs.Query.{OfLength, packs, query, parts, children}
 use Rattle.tree.specs.SearchRule.{totals, is_kept}
-use Rattle.places.proofs.Lists.{and_left, and_right, select-length, number-le}
-use Rattle.query.proofs.Children.{children-length, children-longer}
-use Rattle.query.proofs.Pieces.{strings_at, strings-length}
-use Rattle.query.proofs.Queries.{packs-length}
+use Rattle.places.proofs.Lists.{and_left, and_right, select_length, number_le}
+use Rattle.query.proofs.Children.{children_length, children_longer}
+use Rattle.query.proofs.Pieces.{strings_at, strings_length}
+use Rattle.query.proofs.Queries.{packs_length}
 use Rattle.levels.specs.Levels.{total_of}
 use Rattle.tree.proofs.Levels.{reaching_at, Packed, Listed, AnsweredBelow}
-use Rattle.levels.proofs.Reading.{same_parts, reaching-kept, kept-bits, query-strings, query-packed}
-use Rattle.levels.proofs.Below.{last-answered, ended-answered, next-size, next-refused, next-answered}
+use Rattle.levels.proofs.Reading.{same_parts, reaching_kept, kept_bits, query_strings, query_packed}
+use Rattle.levels.proofs.Below.{last_answered, ended_answered, next_size_lem, next_refused, next_answered}
 
 -- a total is below p, and so fits 8 bytes
-pub total-small : (e : Expander) (n : ℕ) (seeds0 shares0 seeds1 shares1 : List ℕ) (q : Bits) → total_of e n seeds0 shares0 seeds1 shares1 q < 256 ^ 8
-total-small e n seeds0 shares0 seeds1 shares1 q = let h : total_of e n seeds0 shares0 seeds1 shares1 q < p = field_laws.in-add _ _ in omega arith
+pub total_small : (e : Expander) (n : ℕ) (seeds0 shares0 seeds1 shares1 : List ℕ) (q : Bits) → total_of e n seeds0 shares0 seeds1 shares1 q < 256 ^ 8
+total_small e n seeds0 shares0 seeds1 shares1 q = let h : total_of e n seeds0 shares0 seeds1 shares1 q < p = field_laws.in_add _ _ in omega arith
 
 nothing : (qs : List Bits) → length qs ≡ 0 → qs ≡ []
 nothing [] h = refl
@@ -49,29 +49,29 @@ module _ (enough : ℕ → Bool) (T : Bits → ℕ) (small : (q : Bits) → T q 
   fits : place + 8 * count ≤ length d
   fits = omega arith
 
-  area-length : length d₁ ≡ length d
-  area-length = ap length f ∙ put_at-length d place (totals T qs)
+  area_length : length d₁ ≡ length d
+  area_length = ap length f ∙ put_at_length d place (totals T qs)
 
   size : length qs ≡ count
-  size = strings-length k count from d
+  size = strings_length k count from d
 
   many : kept ≡ length ps
-  many = g ∙ sym (select-length (is_kept enough T) qs)
+  many = g ∙ sym (select_length (is_kept enough T) qs)
 
   reached : reaching_at enough k d₁ count from place ≡ ps
-  reached = reaching-kept enough T small k count from place d e fits d₁ f
+  reached = reaching_kept enough T small k count from place d e fits d₁ f
 
   bits : OfLength k ps
-  bits = kept-bits enough T small k count from place d e fits d₁ f
+  bits = kept_bits enough T small k count from place d e fits d₁ f
 
   -- ---- at length n
 
-  pub list-asked : Packed k (parts (packed_length k) count (drop from d))
+  pub list_asked : Packed k (parts (packed_length k) count (drop from d))
       → ((from + count * packed_length k ≤ length d₁) × (place + 8 * count ≤ length d₁) × (kept ≤ count))
       × (Packed k (parts (packed_length k) count (drop from d₁)) × (kept * packed_length k ≡ length (packs (reaching_at enough k d₁ count from place))))
-  list-asked p = (
-    (omega (arith, area-length), omega (arith, area-length), omega (arith, number-le (is_kept enough T) qs, size)),
-    (rw (same_parts enough T small k count from place d e fits d₁ f) p, rw (reached, many) (sym (packs-length k ps bits))),
+  list_asked p = (
+    (omega (arith, area_length), omega (arith, area_length), omega (arith, number_le (is_kept enough T) qs, size)),
+    (rw (same_parts enough T small k count from place d e fits d₁ f) p, rw (reached, many) (sym (packs_length k ps bits))),
   )
 
   pub at_last : k ≡ n → (l' : List ℕ) (how_many record_length list_length : ℕ)
@@ -79,12 +79,12 @@ module _ (enough : ℕ → Bool) (T : Bits → ℕ) (small : (q : Bits) → T q 
       → AnsweredBelow enough T (n - k) k qs (from + count * packed_length k) d l d₁ l' how_many record_length list_length
   at_last h l' how_many record_length list_length x =
       let z : n - k ≡ 0 = omega arith in
-      rw (z, ← e) (last-answered enough T k qs count size place d l fits d₁ f l' how_many record_length list_length (rw reached at x))
+      rw (z, ← e) (last_answered enough T k qs count size place d l fits d₁ f l' how_many record_length list_length (rw reached at x))
 
   -- ---- where nothing is kept
 
-  pub at-end : kept ≡ 0 → AnsweredBelow enough T (n - k) k qs (from + count * packed_length k) d l d₁ l 0 (place + 8 * count) 0
-  at-end h = rw (← e) (ended-answered enough T k qs count size place d l fits d₁ f (n - k) (place + 8 * count) (nothing ps (omega (arith, many))) refl)
+  pub at_end : kept ≡ 0 → AnsweredBelow enough T (n - k) k qs (from + count * packed_length k) d l d₁ l 0 (place + 8 * count) 0
+  at_end h = rw (← e) (ended_answered enough T k qs count size place d l fits d₁ f (n - k) (place + 8 * count) (nothing ps (omega (arith, many))) refl)
 
   -- ---- the next query
 
@@ -92,27 +92,27 @@ module _ (enough : ℕ → Bool) (T : Bits → ℕ) (small : (q : Bits) → T q 
     one_more : n - k ≡ suc (n - (k + 1))
     one_more = omega arith
 
-    pub not-next : (leb kept 65535 && leb (place + 8 * count + (6 + 2 * kept * (packed_length (k + 1) + 8))) len) ≡ false
+    pub not_next : (leb kept 65535 && leb (place + 8 * count + (6 + 2 * kept * (packed_length (k + 1) + 8))) len) ≡ false
         → AnsweredBelow enough T (n - k) k qs (from + count * packed_length k) d l d₁ l 11 0 0
-    not-next h = rw (one_more, ← e) (next-refused enough T k qs count size place d l fits d₁ f (n - (k + 1)) bits kept many (omega arith) (rw whole at h))
+    not_next h = rw (one_more, ← e) (next_refused enough T k qs count size place d l fits d₁ f (n - (k + 1)) bits kept many (omega arith) (rw whole at h))
 
     module _ (yes : (leb kept 65535 && leb (place + 8 * count + (6 + 2 * kept * (packed_length (k + 1) + 8))) len) ≡ true) where
       pub few : kept ≤ 65535
       few = leb-true kept 65535 (and_left (leb kept 65535) _ yes)
 
-      pub next-room : place + 8 * count + (6 + 2 * kept * (packed_length (k + 1) + 8)) ≤ length d
-      next-room = rw whole at (leb-true _ len (and_right (leb kept 65535) _ yes))
+      pub next_room : place + 8 * count + (6 + 2 * kept * (packed_length (k + 1) + 8)) ≤ length d
+      next_room = rw whole at (leb-true _ len (and_right (leb kept 65535) _ yes))
 
       -- the query alone finds room
-      query-room : place + 8 * count + length (query k (children ps)) ≤ length d₁
-      query-room =
-          omega (arith, next-room, area-length, next-size enough T k qs count size place d l fits d₁ f (n - (k + 1)) bits kept many (omega arith), mul-add (2 * kept) (packed_length (k + 1)) 8)
+      query_room : place + 8 * count + length (query k (children ps)) ≤ length d₁
+      query_room =
+          omega (arith, next_room, area_length, next_size_lem enough T k qs count size place d l fits d₁ f (n - (k + 1)) bits kept many (omega arith), mul-add (2 * kept) (packed_length (k + 1)) 8)
 
-      pub next-asked : k ≤ 256
+      pub next_asked : k ≤ 256
           → ((k ≤ 256) × (from + count * packed_length k ≤ place + 8 * count) × (place + 8 * count ≤ place + 8 * count) × (kept ≤ 65535))
           × ((kept ≡ length (reaching_at enough k d₁ count from place))
           × (place + 8 * count + length (query k (children (reaching_at enough k d₁ count from place))) ≤ length d₁))
-      next-asked h = ((h, omega arith, omega arith, few), (rw reached many, rw reached query-room))
+      next_asked h = ((h, omega arith, omega arith, few), (rw reached many, rw reached query_room))
 
       -- d₂ is the area with the next query
       module _ (d₂ : List ℕ) (w : d₂ ≡ put_at d₁ (place + 8 * count) (query k (children (reaching_at enough k d₁ count from place)))) where
@@ -120,25 +120,25 @@ module _ (enough : ℕ → Bool) (T : Bits → ℕ) (small : (q : Bits) → T q 
         asked = w ∙ rw reached
 
         long : OfLength (suc k) (children ps)
-        long = children-longer k ps bits
+        long = children_longer k ps bits
 
         twice : 2 * kept ≡ length (children ps)
-        twice = omega (arith, many, children-length ps)
+        twice = omega (arith, many, children_length ps)
 
-        next-strings : strings_at (k + 1) (2 * kept) (place + 8 * count + 6) d₂ ≡ children ps
-        next-strings = query-strings k (children ps) long d₁ (place + 8 * count) query-room d₂ asked (k + 1) (2 * kept) (add-one k) twice
+        next_strings : strings_at (k + 1) (2 * kept) (place + 8 * count + 6) d₂ ≡ children ps
+        next_strings = query_strings k (children ps) long d₁ (place + 8 * count) query_room d₂ asked (k + 1) (2 * kept) (add-one k) twice
 
-        pub level-asked : n ≤ 256
+        pub level_asked : n ≤ 256
             → ((k + 1 ≤ n) × (n ≤ 256) × (place + 8 * count + 6 + 2 * kept * packed_length (k + 1) + 8 * (2 * kept) ≤ length d₂) × (2 * kept % 2 ≡ 0))
             × Packed (k + 1) (parts (packed_length (k + 1)) (2 * kept) (drop (place + 8 * count + 6) d₂))
-        level-asked h = (
+        level_asked h = (
           (
             omega arith,
             h,
-            omega (arith, next-room, area-length, ap length asked, put_at-length d₁ (place + 8 * count) (query k (children ps)), mul-add (2 * kept) (packed_length (k + 1)) 8),
+            omega (arith, next_room, area_length, ap length asked, put_at_length d₁ (place + 8 * count) (query k (children ps)), mul-add (2 * kept) (packed_length (k + 1)) 8),
             omega arith,
           ),
-          query-packed k (children ps) long d₁ (place + 8 * count) query-room d₂ asked (k + 1) (2 * kept) (add-one k) twice,
+          query_packed k (children ps) long d₁ (place + 8 * count) query_room d₂ asked (k + 1) (2 * kept) (add-one k) twice,
         )
 
         pub at_next : (d' l' : List ℕ) (how_many record_length list_length : ℕ)
@@ -147,10 +147,10 @@ module _ (enough : ℕ → Bool) (T : Bits → ℕ) (small : (q : Bits) → T q 
             → AnsweredBelow enough T (n - k) k qs (from + count * packed_length k) d l d' l' how_many record_length list_length
         at_next d' l' how_many record_length list_length x =
             rw (one_more, ← e)
-            (next-answered enough T k qs count size place d l fits d₁ f (n - (k + 1)) bits kept many (omega arith) few d₂ asked
+            (next_answered enough T k qs count size place d l fits d₁ f (n - (k + 1)) bits kept many (omega arith) few d₂ asked
             (place + 8 * count + 6 + 2 * kept * packed_length (k + 1)) refl d' l' how_many record_length list_length (level x))
           where
             level : AnsweredBelow enough T (n - (k + 1)) (k + 1) (strings_at (k + 1) (2 * kept) (place + 8 * count + 6) d₂)
                 (place + 8 * count + 6 + 2 * kept * packed_length (k + 1)) d₂ l d' l' how_many record_length list_length
                 → AnsweredBelow enough T (n - (k + 1)) (suc k) (children ps) (place + 8 * count + 6 + 2 * kept * packed_length (k + 1)) d₂ l d' l' how_many record_length list_length
-            level y = rw (← add-one k) (rw next-strings at y)
+            level y = rw (← add-one k) (rw next_strings at y)

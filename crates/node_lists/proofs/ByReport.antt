@@ -21,28 +21,28 @@ map_at f (q ∷ qs) zero h = refl
 map_at f (q ∷ qs) (suc j) h = map_at f qs j (omega arith)
 
 module _ (f : ℕ → Bits → Node) (qs : List Bits) where
-  pub by-report-length : (m : ℕ) → length (report_by_report m f qs) ≡ m * length qs
+  pub by_report_length : (m : ℕ) → length (report_by_report m f qs) ≡ m * length qs
   unfolding report_by_report
-  by-report-length zero = sym (zero-mul (length qs))
-  by-report-length (suc m) =
+  by_report_length zero = sym (zero-mul (length qs))
+  by_report_length (suc m) =
       length-append (report_by_report m f qs) (map (f m) qs)
-      ∙ omega (arith, by-report-length m, length-map qs (f m), suc-mul m (length qs))
+      ∙ omega (arith, by_report_length m, length-map qs (f m), suc-mul m (length qs))
 
   -- the place of report i's node at prefix j lies within those of m reports
   pub place_inside : (m i j : ℕ) → i < m → j < length qs → i * length qs + j < m * length qs
   place_inside m i j h l = omega (arith, mul-le-mul_right (length qs) h, suc-mul i (length qs))
 
-  pub by-report-at : (m i j : ℕ) → i < m → j < length qs → get_or (report_by_report m f qs) (i * length qs + j) no_node ≡ f i (get_or qs j [])
+  pub by_report_at : (m i j : ℕ) → i < m → j < length qs → get_or (report_by_report m f qs) (i * length qs + j) no_node ≡ f i (get_or qs j [])
   unfolding report_by_report
-  by-report-at zero i j h l = absurd (omega arith)
-  by-report-at (suc m) i j h l =
+  by_report_at zero i j h l = absurd (omega arith)
+  by_report_at (suc m) i j h l =
       elim (dec_lt i m) [
         | yes a ↦
-            get_or-append (report_by_report m f qs) (map (f m) qs) no_node (i * length qs + j) (omega (arith, by-report-length m, place_inside m i j a l))
-            ∙ by-report-at m i j a l
+            get_or-append (report_by_report m f qs) (map (f m) qs) no_node (i * length qs + j) (omega (arith, by_report_length m, place_inside m i j a l))
+            ∙ by_report_at m i j a l
         | no a ↦
             let e : i ≡ m = omega arith in
-            let at : i * length qs + j ≡ length (report_by_report m f qs) + j = rw e (omega (arith, by-report-length m)) in
+            let at : i * length qs + j ≡ length (report_by_report m f qs) + j = rw e (omega (arith, by_report_length m)) in
             ap (λ (t : ℕ). get_or (report_by_report (suc m) f qs) t no_node) at
             ∙ get_or-append-add (report_by_report m f qs) (map (f m) qs) j no_node
             ∙ map_at (f m) qs j l
@@ -54,9 +54,9 @@ pub map_same : {A : Type 0} (f g : Bits → A) (qs : List Bits) → ((q : Bits) 
 map_same f g [] h = refl
 map_same f g (q ∷ qs) h = ap₂ ◌∷◌ (h q (here refl)) (map_same f g qs (λ x m. h x (there m)))
 
-pub by-report-same : (f g : ℕ → Bits → Node) (qs : List Bits) (m : ℕ) → ((i : ℕ) → i < m → (q : Bits) → q ∈ qs → f i q ≡ g i q)
+pub by_report_same : (f g : ℕ → Bits → Node) (qs : List Bits) (m : ℕ) → ((i : ℕ) → i < m → (q : Bits) → q ∈ qs → f i q ≡ g i q)
     → report_by_report m f qs ≡ report_by_report m g qs
 unfolding report_by_report
-by-report-same f g qs zero h = refl
-by-report-same f g qs (suc m) h =
-    ap₂ ◌++◌ (by-report-same f g qs m (λ i l. h i (omega arith))) (map_same (f m) (g m) qs (h m (omega arith)))
+by_report_same f g qs zero h = refl
+by_report_same f g qs (suc m) h =
+    ap₂ ◌++◌ (by_report_same f g qs m (λ i l. h i (omega arith))) (map_same (f m) (g m) qs (h m (omega arith)))

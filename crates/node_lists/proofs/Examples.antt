@@ -17,17 +17,17 @@ use Rattle.node_lists.specs.ShareKept.{lent}
 use Rattle.node_lists.proofs.KeptOutcome.{kept_number}
 
 -- report by report, prefixes in order
-by-report : (f : ℕ → Bits → Node) (p q : Bits) → report_by_report 2 f (p ∷ q ∷ []) ≡ f 0 p ∷ f 0 q ∷ f 1 p ∷ f 1 q ∷ []
+by_report : (f : ℕ → Bits → Node) (p q : Bits) → report_by_report 2 f (p ∷ q ∷ []) ≡ f 0 p ∷ f 0 q ∷ f 1 p ∷ f 1 q ∷ []
 unfolding report_by_report
-by-report f p q = refl
+by_report f p q = refl
 
 -- two seeds want two nodes
-roots-numbers : (roots_number (replicate 32 0) 2 ≡ 0) × (roots_number (replicate 32 0) 1 ≡ 13) × (roots_number (replicate 33 0) 1 ≡ 4)
-roots-numbers = (refl, refl, refl)
+roots_numbers : (roots_number (replicate 32 0) 2 ≡ 0) × (roots_number (replicate 32 0) 1 ≡ 13) × (roots_number (replicate 33 0) 1 ≡ 4)
+roots_numbers = (refl, refl, refl)
 
 -- the queries for `0`, for `0` and `1`, and for `10` and `11`
-abbrev zero-query : List ℕ
-zero-query = 0 ∷ 0 ∷ 0 ∷ 0 ∷ 0 ∷ 1 ∷ 0 ∷ []
+abbrev zero_query : List ℕ
+zero_query = 0 ∷ 0 ∷ 0 ∷ 0 ∷ 0 ∷ 1 ∷ 0 ∷ []
 
 abbrev first : List ℕ
 first = 0 ∷ 0 ∷ 0 ∷ 0 ∷ 0 ∷ 2 ∷ 0 ∷ 128 ∷ []
@@ -40,12 +40,12 @@ abbrev number : List ℕ → List ℕ → ℕ → ℕ → ℕ
 number last query count room = kept_number (lent 2 2 false (replicate 49 0) last query (replicate count no_node) (replicate room 0))
 
 -- from the roots, and on from there
-kept-numbers : (number [] first 2 16 ≡ 0) × (number first second 2 16 ≡ 0)
+kept_numbers : (number [] first 2 16 ≡ 0) × (number first second 2 16 ≡ 0)
 unfolding is_query parts spares_zero is_ascending spare_zero unpack bits_of digits window from_big from_little every payloads_below spare_bits_zero read_correction
-kept-numbers = (refl, refl)
+kept_numbers = (refl, refl)
 
 -- 9 before 13 before 14 before 11
-kept-order : (number (1 ∷ []) second 1 0 ≡ 9) × (number first (1 ∷ []) 1 0 ≡ 9) × (number zero-query second 1 0 ≡ 13) × (number first zero-query 1 0 ≡ 13)
-    × (number zero-query second 2 0 ≡ 14) × (number [] second 2 0 ≡ 14) × (number first first 2 0 ≡ 14) × (number first second 2 15 ≡ 11)
+kept_order : (number (1 ∷ []) second 1 0 ≡ 9) × (number first (1 ∷ []) 1 0 ≡ 9) × (number zero_query second 1 0 ≡ 13) × (number first zero_query 1 0 ≡ 13)
+    × (number zero_query second 2 0 ≡ 14) × (number [] second 2 0 ≡ 14) × (number first first 2 0 ≡ 14) × (number first second 2 15 ≡ 11)
 unfolding is_query parts spares_zero is_ascending spare_zero unpack bits_of digits window from_big from_little every payloads_below spare_bits_zero read_correction
-kept-order = (refl, refl, refl, refl, refl, refl, refl, refl)
+kept_order = (refl, refl, refl, refl, refl, refl, refl, refl)

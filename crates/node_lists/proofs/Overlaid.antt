@@ -7,7 +7,7 @@ use mathlib.Core.List.{List, [], ◌∷◌, map}
 use lib.ListN.{length, get_or, take, drop, length-map, get_or-append, get_or-map}
 use lib.Seq.{take_at, take_all, drop_at, get_or-append-add, get_or-drop, ext_get_or}
 use Rattle.places.specs.Places.{overlay}
-use Rattle.places.proofs.Places.{overlay-length}
+use Rattle.places.proofs.Places.{overlay_length}
 
 module _ {A : Type 0} where
   -- within a list what stands for the others does not matter
@@ -17,9 +17,9 @@ module _ {A : Type 0} where
   get_d_any (x ∷ l) (suc i) d e h = get_d_any l i d e (omega arith)
 
   -- the new elements stand first
-  pub overlay-first : (vs l : List A) (n : ℕ) → length vs ≡ n → take n (overlay vs l) ≡ vs
+  pub overlay_first : (vs l : List A) (n : ℕ) → length vs ≡ n → take n (overlay vs l) ≡ vs
   unfolding overlay
-  overlay-first vs l n h = take_at vs (drop (length vs) l) n h
+  overlay_first vs l n h = take_at vs (drop (length vs) l) n h
 
   -- a list whose first n elements are at least n has as many
   pub as_long : (n : ℕ) (l m : List A) → take n l ≡ m → n ≤ length m → n ≤ length l
@@ -30,18 +30,18 @@ module _ {A : Type 0} where
       ]
 
   -- what stands past the new elements is as it was
-  pub overlay-spare : (vs l : List A) (n : ℕ) → length vs ≡ n → drop n (overlay vs l) ≡ drop n l
+  pub overlay_spare : (vs l : List A) (n : ℕ) → length vs ≡ n → drop n (overlay vs l) ≡ drop n l
   unfolding overlay
-  overlay-spare vs l n h = drop_at vs (drop (length vs) l) n h ∙ ap (λ (m : ℕ). drop m l) h
+  overlay_spare vs l n h = drop_at vs (drop (length vs) l) n h ∙ ap (λ (m : ℕ). drop m l) h
 
   module _ (vs l : List A) (d : A) where
-    pub overlay-below : (i : ℕ) → i < length vs → get_or (overlay vs l) i d ≡ get_or vs i d
+    pub overlay_below : (i : ℕ) → i < length vs → get_or (overlay vs l) i d ≡ get_or vs i d
     unfolding overlay
-    overlay-below i h = get_or-append vs (drop (length vs) l) d i h
+    overlay_below i h = get_or-append vs (drop (length vs) l) d i h
 
-    pub overlay-above : (i : ℕ) → length vs ≤ i → get_or (overlay vs l) i d ≡ get_or l i d
+    pub overlay_above : (i : ℕ) → length vs ≤ i → get_or (overlay vs l) i d ≡ get_or l i d
     unfolding overlay
-    overlay-above i h =
+    overlay_above i h =
         let e : i ≡ length vs + (i - length vs) = omega arith in
         ap (λ (k : ℕ). get_or (overlay vs l) k d) e ∙ get_or-append-add vs (drop (length vs) l) (i - length vs) d
         ∙ get_or-drop (length vs) l (i - length vs) d ∙ ap (λ (k : ℕ). get_or l k d) (sym e)
@@ -50,10 +50,10 @@ module _ {A : Type 0} where
     pub overlaid : (m : List A) → length m ≡ length l → length vs ≤ length l → ((i : ℕ) → i < length vs → get_or m i d ≡ get_or vs i d)
         → ((i : ℕ) → length vs ≤ i → get_or m i d ≡ get_or l i d) → m ≡ overlay vs l
     overlaid m size fits below above =
-        ext_get_or d m (overlay vs l) (size ∙ sym (overlay-length vs l fits))
+        ext_get_or d m (overlay vs l) (size ∙ sym (overlay_length vs l fits))
         (λ i h. elim (dec_lt i (length vs)) [
-          | yes a ↦ below i a ∙ sym (overlay-below i a)
-          | no a ↦ above i (omega arith) ∙ sym (overlay-above i (omega arith))
+          | yes a ↦ below i a ∙ sym (overlay_below i a)
+          | no a ↦ above i (omega arith) ∙ sym (overlay_above i (omega arith))
         ])
 
 -- what stands at a place of a list of images

@@ -39,7 +39,7 @@ walked_node s e i p = node_at (scheme e) (read_correction s.n (public_share_at s
 -- it, with that call's new query as its last'. Spare nodes are any, and may be more or fewer from call to call.
 pub data Reached (s : Session) : List ℕ → List Node → Type 0 where
   -- at the roots: the first nodes, one for each report, are the root seeds with the server's bit
-  at-roots : (nodes : List Node) → take (share_count s.n s.shares) nodes ≡ roots s.server s.seeds → Reached s [] nodes
+  at_roots : (nodes : List Node) → take (share_count s.n s.shares) nodes ≡ roots s.server s.seeds → Reached s [] nodes
   -- after an accepted call: as many nodes as reports × prefixes of its query are as it left them
   after : (last query : List ℕ) (nodes left : List Node) (area : List ℕ) → Reached s last nodes → (kept_outcome (call s last query nodes area)).number ≡ 0
       → take (share_count s.n s.shares * length (prefixes_of query)) left

@@ -10,27 +10,27 @@ use Rattle.parents.specs.Lookup.{up_from, down_from, looked_up}
 module _ (f : ℕ → Bool) where
   -- ---- upwards
 
-  pub up-hit : (a m : ℕ) → f a ≡ true → up_from f a (suc m) ≡ a
+  pub up_hit : (a m : ℕ) → f a ≡ true → up_from f a (suc m) ≡ a
   unfolding up_from
-  up-hit a m e = rw e
+  up_hit a m e = rw e
 
-  pub up-miss : (a m : ℕ) → f a ≡ false → up_from f a (suc m) ≡ up_from f (suc a) m
+  pub up_miss : (a m : ℕ) → f a ≡ false → up_from f a (suc m) ≡ up_from f (suc a) m
   unfolding up_from
-  up-miss a m e = rw e
+  up_miss a m e = rw e
 
   -- one step of the loop
-  pub up-found : (a m : ℕ) → a < m → (r : Bool) → r ≡ f a → r ≡ true → up_from f a (m - a) ≡ a
-  up-found a m l r e h = let s : m - a ≡ suc (m - suc a) = omega arith in rw s (up-hit a (m - suc a) (sym e ∙ h))
+  pub up_found : (a m : ℕ) → a < m → (r : Bool) → r ≡ f a → r ≡ true → up_from f a (m - a) ≡ a
+  up_found a m l r e h = let s : m - a ≡ suc (m - suc a) = omega arith in rw s (up_hit a (m - suc a) (sym e ∙ h))
 
-  pub up-on : (a m : ℕ) → a < m → (r : Bool) → r ≡ f a → r ≡ false → up_from f a (m - a) ≡ up_from f (a + 1) (m - (a + 1))
-  up-on a m l r e h =
+  pub up_on : (a m : ℕ) → a < m → (r : Bool) → r ≡ f a → r ≡ false → up_from f a (m - a) ≡ up_from f (a + 1) (m - (a + 1))
+  up_on a m l r e h =
       let s : m - a ≡ suc (m - suc a) = omega arith in
       let t : a + 1 ≡ suc a = omega arith in
-      rw (s, t) (up-miss a (m - suc a) (sym e ∙ h))
+      rw (s, t) (up_miss a (m - suc a) (sym e ∙ h))
 
-  pub up-past : (a m : ℕ) → m ≤ a → up_from f a (m - a) ≡ a
+  pub up_past : (a m : ℕ) → m ≤ a → up_from f a (m - a) ≡ a
   unfolding up_from
-  up-past a m l = let s : m - a ≡ 0 = omega arith in rw s
+  up_past a m l = let s : m - a ≡ 0 = omega arith in rw s
 
   pub up_least : (m a : ℕ) → a ≤ up_from f a m
   unfolding up_from
@@ -42,10 +42,10 @@ module _ (f : ℕ → Bool) where
       go false h = omega arith
 
   -- what is found passes
-  pub up-passes : (m a : ℕ) → up_from f a m < a + m → f (up_from f a m) ≡ true
+  pub up_passes : (m a : ℕ) → up_from f a m < a + m → f (up_from f a m) ≡ true
   unfolding up_from
-  up-passes zero a h = absurd (omega arith)
-  up-passes (suc m) a h = go (f a) refl (up-passes m (suc a)) h
+  up_passes zero a h = absurd (omega arith)
+  up_passes (suc m) a h = go (f a) refl (up_passes m (suc a)) h
     where
       go : (b : Bool) → f a ≡ b → (up_from f (suc a) m < suc a + m → f (up_from f (suc a) m) ≡ true) → cond b a (up_from f (suc a) m) < a + suc m
           → f (cond b a (up_from f (suc a) m)) ≡ true
@@ -66,43 +66,43 @@ module _ (f : ℕ → Bool) where
 
   -- ---- downwards
 
-  pub down-hit : (none a : ℕ) → f a ≡ true → down_from f none (suc a) ≡ a
+  pub down_hit : (none a : ℕ) → f a ≡ true → down_from f none (suc a) ≡ a
   unfolding down_from
-  down-hit none a e = rw e
+  down_hit none a e = rw e
 
-  pub down-miss : (none a : ℕ) → f a ≡ false → down_from f none (suc a) ≡ down_from f none a
+  pub down_miss : (none a : ℕ) → f a ≡ false → down_from f none (suc a) ≡ down_from f none a
   unfolding down_from
-  down-miss none a e = rw e
+  down_miss none a e = rw e
 
   -- one step of the loop
-  pub down-found : (none a : ℕ) → 0 < a → (r : Bool) → r ≡ f (a - 1) → r ≡ true → down_from f none a ≡ a - 1
-  down-found none a l r e h =
+  pub down_found : (none a : ℕ) → 0 < a → (r : Bool) → r ≡ f (a - 1) → r ≡ true → down_from f none a ≡ a - 1
+  down_found none a l r e h =
       let s : a ≡ suc (a - 1) = omega arith in
-      ap (down_from f none) s ∙ down-hit none (a - 1) (sym e ∙ h)
+      ap (down_from f none) s ∙ down_hit none (a - 1) (sym e ∙ h)
 
-  pub down-on : (none a : ℕ) → 0 < a → (r : Bool) → r ≡ f (a - 1) → r ≡ false → down_from f none a ≡ down_from f none (a - 1)
-  down-on none a l r e h =
+  pub down_on : (none a : ℕ) → 0 < a → (r : Bool) → r ≡ f (a - 1) → r ≡ false → down_from f none a ≡ down_from f none (a - 1)
+  down_on none a l r e h =
       let s : a ≡ suc (a - 1) = omega arith in
-      ap (down_from f none) s ∙ down-miss none (a - 1) (sym e ∙ h)
+      ap (down_from f none) s ∙ down_miss none (a - 1) (sym e ∙ h)
 
-  pub down-end : (none a : ℕ) → a ≤ 0 → down_from f none a ≡ none
+  pub down_end : (none a : ℕ) → a ≤ 0 → down_from f none a ≡ none
   unfolding down_from
-  down-end none a l = let s : a ≡ 0 = omega arith in rw s
+  down_end none a l = let s : a ≡ 0 = omega arith in rw s
 
-  pub down-passes : (none a : ℕ) → a ≤ none → down_from f none a < none → f (down_from f none a) ≡ true
+  pub down_passes : (none a : ℕ) → a ≤ none → down_from f none a < none → f (down_from f none a) ≡ true
   unfolding down_from
-  down-passes none zero h l = absurd (omega arith)
-  down-passes none (suc a) h l = go (f a) refl (down-passes none a (omega arith)) l
+  down_passes none zero h l = absurd (omega arith)
+  down_passes none (suc a) h l = go (f a) refl (down_passes none a (omega arith)) l
     where
       go : (b : Bool) → f a ≡ b → (down_from f none a < none → f (down_from f none a) ≡ true) → cond b a (down_from f none a) < none
           → f (cond b a (down_from f none a)) ≡ true
       go true e ih l = e
       go false e ih l = ih l
 
-  pub down-below : (none a i : ℕ) → i < a → f i ≡ true → down_from f none a < a
+  pub down_below : (none a i : ℕ) → i < a → f i ≡ true → down_from f none a < a
   unfolding down_from
-  down-below none zero i l p = absurd (omega arith)
-  down-below none (suc a) i l p = go (f a) refl (down-below none a i)
+  down_below none zero i l p = absurd (omega arith)
+  down_below none (suc a) i l p = go (f a) refl (down_below none a i)
     where
       go : (b : Bool) → f a ≡ b → (i < a → f i ≡ true → down_from f none a < a) → cond b a (down_from f none a) < suc a
       go true e ih = omega arith
@@ -113,84 +113,84 @@ module _ (f : ℕ → Bool) where
   -- ---- both
 
   module _ (m hint : ℕ) where
-    pub looked-near-up : (r : ℕ) → r ≡ up_from f hint (m - hint) → r < m → r ≡ looked_up true f m hint
+    pub looked_near_up : (r : ℕ) → r ≡ up_from f hint (m - hint) → r < m → r ≡ looked_up true f m hint
     unfolding looked_up
-    looked-near-up r e l = rw (← e, lt-ltb r m l)
+    looked_near_up r e l = rw (← e, lt-ltb r m l)
 
-    pub looked-far-up : (r s : ℕ) → r ≡ up_from f hint (m - hint) → m ≤ r → s ≡ up_from f 0 (m - 0) → s ≡ looked_up true f m hint
+    pub looked_far_up : (r s : ℕ) → r ≡ up_from f hint (m - hint) → m ≤ r → s ≡ up_from f 0 (m - 0) → s ≡ looked_up true f m hint
     unfolding looked_up
-    looked-far-up r s e l d =
+    looked_far_up r s e l d =
         let whole : m - 0 ≡ m = omega arith in
         rw (← e, le-ltb r m l) (d ∙ ap (up_from f 0) whole)
 
-    pub looked-near-down : (r below : ℕ) → below ≡ min (suc hint) m → r ≡ down_from f m below → r < m → r ≡ looked_up false f m hint
+    pub looked_near_down : (r below : ℕ) → below ≡ min (suc hint) m → r ≡ down_from f m below → r < m → r ≡ looked_up false f m hint
     unfolding looked_up
-    looked-near-down r below b e l = rw (← b, ← e, lt-ltb r m l)
+    looked_near_down r below b e l = rw (← b, ← e, lt-ltb r m l)
 
-    pub looked-far-down : (r s below : ℕ) → below ≡ min (suc hint) m → r ≡ down_from f m below → m ≤ r → s ≡ down_from f m m → s ≡ looked_up false f m hint
+    pub looked_far_down : (r s below : ℕ) → below ≡ min (suc hint) m → r ≡ down_from f m below → m ≤ r → s ≡ down_from f m m → s ≡ looked_up false f m hint
     unfolding looked_up
-    looked-far-down r s below b e l d = rw (← b, ← e, le-ltb r m l) d
+    looked_far_down r s below b e l d = rw (← b, ← e, le-ltb r m l) d
 
     whole : up_from f 0 m ≡ up_from f 0 (m - 0)
     whole = let e : m ≡ m - 0 = omega arith in ap (up_from f 0) e
 
     -- what is found passes
-    pub looked-passes : (up : Bool) → looked_up up f m hint < m → f (looked_up up f m hint) ≡ true
-    looked-passes true h =
+    pub looked_passes : (up : Bool) → looked_up up f m hint < m → f (looked_up up f m hint) ≡ true
+    looked_passes true h =
         elim (dec_lt (up_from f hint (m - hint)) m) [
           | yes a ↦
-              let e : up_from f hint (m - hint) ≡ looked_up true f m hint = looked-near-up (up_from f hint (m - hint)) refl a in
-              rw (← e) (up-passes (m - hint) hint (omega (arith, up_least (m - hint) hint)))
+              let e : up_from f hint (m - hint) ≡ looked_up true f m hint = looked_near_up (up_from f hint (m - hint)) refl a in
+              rw (← e) (up_passes (m - hint) hint (omega (arith, up_least (m - hint) hint)))
           | no a ↦
-              let e : up_from f 0 m ≡ looked_up true f m hint = looked-far-up (up_from f hint (m - hint)) (up_from f 0 m) refl (omega arith) whole in
-              rw (← e) (up-passes m 0 (omega arith))
+              let e : up_from f 0 m ≡ looked_up true f m hint = looked_far_up (up_from f hint (m - hint)) (up_from f 0 m) refl (omega arith) whole in
+              rw (← e) (up_passes m 0 (omega arith))
         ]
-    looked-passes false h =
+    looked_passes false h =
         let below : ℕ = min (suc hint) m in
         elim (dec_lt (down_from f m below) m) [
           | yes a ↦
-              let e : down_from f m below ≡ looked_up false f m hint = looked-near-down (down_from f m below) below refl refl a in
-              rw (← e) (down-passes m below (omega arith) a)
+              let e : down_from f m below ≡ looked_up false f m hint = looked_near_down (down_from f m below) below refl refl a in
+              rw (← e) (down_passes m below (omega arith) a)
           | no a ↦
-              let e : down_from f m m ≡ looked_up false f m hint = looked-far-down (down_from f m below) (down_from f m m) below refl refl (omega arith) refl in
-              rw (← e) (down-passes m m (omega arith) (omega arith))
+              let e : down_from f m m ≡ looked_up false f m hint = looked_far_down (down_from f m below) (down_from f m m) below refl refl (omega arith) refl in
+              rw (← e) (down_passes m m (omega arith) (omega arith))
         ]
 
     -- where some place passes, one is found
-    pub looked-below : (up : Bool) (i : ℕ) → i < m → f i ≡ true → looked_up up f m hint < m
-    looked-below true i l p =
+    pub looked_below : (up : Bool) (i : ℕ) → i < m → f i ≡ true → looked_up up f m hint < m
+    looked_below true i l p =
         elim (dec_lt (up_from f hint (m - hint)) m) [
-          | yes a ↦ omega (arith, looked-near-up (up_from f hint (m - hint)) refl a)
+          | yes a ↦ omega (arith, looked_near_up (up_from f hint (m - hint)) refl a)
           | no a ↦
               omega (
                 arith,
-                looked-far-up (up_from f hint (m - hint)) (up_from f 0 m) refl (omega arith) whole,
+                looked_far_up (up_from f hint (m - hint)) (up_from f 0 m) refl (omega arith) whole,
                 up_first m 0 i (omega arith) (omega arith) p,
               )
         ]
-    looked-below false i l p =
+    looked_below false i l p =
         let below : ℕ = min (suc hint) m in
         elim (dec_lt (down_from f m below) m) [
-          | yes a ↦ omega (arith, looked-near-down (down_from f m below) below refl refl a)
+          | yes a ↦ omega (arith, looked_near_down (down_from f m below) below refl refl a)
           | no a ↦
               omega (
                 arith,
-                looked-far-down (down_from f m below) (down_from f m m) below refl refl (omega arith) refl,
-                down-below m m i l p,
+                looked_far_down (down_from f m below) (down_from f m m) below refl refl (omega arith) refl,
+                down_below m m i l p,
               )
         ]
 
     -- where one place alone passes, it is found
-    pub looked-only : (up : Bool) (p : ℕ) → p < m → f p ≡ true → ((i : ℕ) → i < m → f i ≡ true → i ≡ p) → looked_up up f m hint ≡ p
-    looked-only up p l e only = let h = looked-below up p l e in only (looked_up up f m hint) h (looked-passes up h)
+    pub looked_only : (up : Bool) (p : ℕ) → p < m → f p ≡ true → ((i : ℕ) → i < m → f i ≡ true → i ≡ p) → looked_up up f m hint ≡ p
+    looked_only up p l e only = let h = looked_below up p l e in only (looked_up up f m hint) h (looked_passes up h)
 
     -- from a hint on, upwards, one is found exactly when one is found from the beginning on
-    pub looked-some : looked_up true f m hint < m → up_from f 0 m < m
-    looked-some h = omega (arith, up_first m 0 (looked_up true f m hint) (omega arith) (omega arith) (looked-passes true h))
+    pub looked_some : looked_up true f m hint < m → up_from f 0 m < m
+    looked_some h = omega (arith, up_first m 0 (looked_up true f m hint) (omega arith) (omega arith) (looked_passes true h))
 
-    pub looked-none : m ≤ looked_up true f m hint → m ≤ up_from f 0 m
-    looked-none h =
+    pub looked_none : m ≤ looked_up true f m hint → m ≤ up_from f 0 m
+    looked_none h =
         elim (dec_lt (up_from f 0 m) m) [
-          | yes a ↦ absurd (omega (arith, looked-below true (up_from f 0 m) a (up-passes m 0 (omega arith))))
+          | yes a ↦ absurd (omega (arith, looked_below true (up_from f 0 m) a (up_passes m 0 (omega arith))))
           | no a ↦ omega arith
         ]

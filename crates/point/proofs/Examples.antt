@@ -74,9 +74,9 @@ I = refl
 spare : ℕ → Bool
 spare x = spare_bits_zero 2 (x ∷ replicate 48 0)
 
-spare-bits : (spare 15 ∷ spare 16 ∷ []) ≡ true ∷ false ∷ []
+spare_bits : (spare 15 ∷ spare 16 ∷ []) ≡ true ∷ false ∷ []
 unfolding computes spare
-spare-bits = refl
+spare_bits = refl
 
 -- ---- a key of two levels
 
@@ -95,25 +95,25 @@ report2 = record {
   weight = 1;
 }
 
-classroom-share : report_public_share classroom 2 report2
+classroom_share : report_public_share classroom 2 report2
     ≡ (10
     ∷ 0 ∷ 73 ∷ 93 ∷ 13 ∷ 19 ∷ 119 ∷ 98 ∷ 75 ∷ 29 ∷ 94 ∷ 75 ∷ 37 ∷ 197 ∷ 202 ∷ 49 ∷ 166
     ∷ 1 ∷ 0 ∷ 0 ∷ 0 ∷ 0 ∷ 0 ∷ 0 ∷ 0
     ∷ 14 ∷ 0 ∷ 0 ∷ 0 ∷ 0 ∷ 0 ∷ 0 ∷ 0 ∷ 6 ∷ 0 ∷ 0 ∷ 0 ∷ 0 ∷ 0 ∷ 0 ∷ 0
     ∷ 1 ∷ 0 ∷ 0 ∷ 0 ∷ 0 ∷ 0 ∷ 0 ∷ 0 ∷ [])
 unfolding computes classroom report2
-classroom-share = refl
+classroom_share = refl
 
-toy-share : report_public_share toy 2 report2
+toy_share : report_public_share toy 2 report2
     ≡ (3
     ∷ 14 ∷ 162 ∷ 247 ∷ 171 ∷ 71 ∷ 142 ∷ 90 ∷ 86 ∷ 6 ∷ 179 ∷ 253 ∷ 34 ∷ 249 ∷ 225 ∷ 214 ∷ 35
     ∷ 31 ∷ 178 ∷ 188 ∷ 4 ∷ 208 ∷ 126 ∷ 233 ∷ 80
     ∷ 182 ∷ 172 ∷ 235 ∷ 39 ∷ 120 ∷ 212 ∷ 228 ∷ 47 ∷ 109 ∷ 215 ∷ 118 ∷ 147 ∷ 189 ∷ 184 ∷ 67 ∷ 76
     ∷ 9 ∷ 224 ∷ 248 ∷ 11 ∷ 39 ∷ 105 ∷ 183 ∷ 90 ∷ [])
 unfolding computes toy toy_block report2
-toy-share = refl
+toy_share = refl
 
-toy-shares : shares toy report2 ((false ∷ false ∷ []) ∷ (false ∷ true ∷ []) ∷ (true ∷ true ∷ []) ∷ [])
+toy_shares : shares toy report2 ((false ∷ false ∷ []) ∷ (false ∷ true ∷ []) ∷ (true ∷ true ∷ []) ∷ [])
     ≡ 10292371267886374429 ∷ 8154372801528209892 ∷ 9425212311546474321 ∷ 9021531757868110001 ∷ 14191365022970699618 ∷ 4255379046443884703 ∷ []
 unfolding computes toy toy_block report2 shares
-toy-shares = refl
+toy_shares = refl

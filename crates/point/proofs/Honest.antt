@@ -10,31 +10,31 @@ use Rattle.point.specs.Scheme.{Scheme, Lawful}
 use Rattle.point.specs.Evaluation.{bit_of, share_at}
 use Rattle.point.specs.PublicShare.{public_share_length, read_correction, payloads_below, spare_bits_zero, Wellformed}
 use Rattle.point.specs.Totals.{Report, Made, root_seed, report_correction, report_share, report_public_share}
-use Rattle.point.proofs.Correct.{key-seed, key-payload}
-use Rattle.point.proofs.Local.{share-local}
-use Rattle.point.proofs.PublicShare.{read-correction, public-bytes, public-payloads, public-spare}
+use Rattle.point.proofs.Correct.{key_seed, key_payload}
+use Rattle.point.proofs.Local.{share_local}
+use Rattle.point.proofs.PublicShare.{read_correction_lem, public_bytes_lem, public_payloads, public_spare}
 
 -- Any modulus that fits 64 bits, and a report of n bits.
 module _ (S : Scheme ℕ) {m : ℕ} (L : Lawful ℕ S (λ x. x < m)) (fits : m ≤ 2 ^ 64) (n : ℕ) (r : Report ℕ) (h : Made (λ x. x < m) n r) where
-  pub report-wellformed : Wellformed m n (report_correction S r)
+  pub report_wellformed : Wellformed m n (report_correction S r)
   unfolding report_correction
-  report-wellformed = record {
-    seeds = λ k l. key-seed S L r.weight (bit_of r.string) r.seed0 r.seed1 h.sized0 h.sized1 k;
-    payloads = λ k l. key-payload S L r.weight (bit_of r.string) r.seed0 r.seed1 h.sized0 h.sized1 k;
+  report_wellformed = record {
+    seeds = λ k l. key_seed S L r.weight (bit_of r.string) r.seed0 r.seed1 h.sized0 h.sized1 k;
+    payloads = λ k l. key_payload S L r.weight (bit_of r.string) r.seed0 r.seed1 h.sized0 h.sized1 k;
   }
 
-  pub report-bytes : Bytes (public_share_length n) (report_public_share S n r)
+  pub report_bytes : Bytes (public_share_length n) (report_public_share S n r)
   unfolding report_public_share
-  report-bytes = public-bytes n (report_correction S r) report-wellformed.seeds
+  report_bytes = public_bytes_lem n (report_correction S r) report_wellformed.seeds
 
-  pub report-passes : (payloads_below m n (report_public_share S n r) ≡ true) × (spare_bits_zero n (report_public_share S n r) ≡ true)
+  pub report_passes : (payloads_below m n (report_public_share S n r) ≡ true) × (spare_bits_zero n (report_public_share S n r) ≡ true)
   unfolding report_public_share
-  report-passes = (public-payloads m fits n (report_correction S r) report-wellformed, public-spare n (report_correction S r) report-wellformed.seeds)
+  report_passes = (public_payloads m fits n (report_correction S r) report_wellformed, public_spare n (report_correction S r) report_wellformed.seeds)
 
-  pub report-read : (b : Bool) (q : Bits) → length q ≤ n →
+  pub report_read : (b : Bool) (q : Bits) → length q ≤ n →
       share_at S (read_correction n (report_public_share S n r)) (root_seed b r) b q ≡ report_share S b q r
   unfolding report_public_share report_share
-  report-read b q l =
-      share-local S (root_seed b r) b (length q)
-      (λ i k. read-correction n (report_correction S r) report-wellformed.seeds i (omega arith) (omega (arith, report-wellformed.payloads i (omega arith))))
+  report_read b q l =
+      share_local S (root_seed b r) b (length q)
+      (λ i k. read_correction_lem n (report_correction S r) report_wellformed.seeds i (omega arith) (omega (arith, report_wellformed.payloads i (omega arith))))
       (λ i k. refl)

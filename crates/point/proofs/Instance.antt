@@ -11,29 +11,29 @@ use Rattle.bits.specs.Strings.{Bits, is_prefix}
 use Rattle.group.specs.Modular.{modulus}
 use Rattle.group.proofs.Modular.{field_laws}
 use Rattle.expander.specs.declared.Expander.{Expander}
-use Rattle.expander.proofs.Sized.{block-bytes}
+use Rattle.expander.proofs.Sized.{block_bytes}
 use Rattle.point.specs.Scheme.{Lawful}
 use Rattle.point.specs.Keys.{key_correction}
 use Rattle.point.specs.Evaluation.{bit_of, share_at}
 use Rattle.point.specs.Instance.{field_scheme, scheme}
-use Rattle.point.proofs.Prefix.{prefix-correct}
+use Rattle.point.proofs.Prefix.{prefix_correct}
 
 -- any block function that gives 16 bytes for 16 bytes
-pub field-lawful : (block : List ℕ → ℕ → List ℕ) → ((s : List ℕ) → Bytes 16 s → (j : ℕ) → Bytes 16 (block s j)) →
+pub field_lawful : (block : List ℕ → ℕ → List ℕ) → ((s : List ℕ) → Bytes 16 s → (j : ℕ) → Bytes 16 (block s j)) →
     Lawful ℕ (field_scheme block) (λ x. x < modulus)
 unfolding field_scheme
-field-lawful block sized = record { laws = field_laws; sized = sized; in-payload = λ f. mod-lt _ (omega arith) }
+field_lawful block sized = record { laws = field_laws; sized = sized; in_payload = λ f. mod-lt _ (omega arith) }
 
-pub scheme-lawful : (e : Expander) → Lawful ℕ (scheme e) (λ x. x < modulus)
-scheme-lawful e = field-lawful _ (block-bytes e)
+pub scheme_lawful : (e : Expander) → Lawful ℕ (scheme e) (λ x. x < modulus)
+scheme_lawful e = field_lawful _ (block_bytes e)
 
 -- a group number fits 64 bits
-pub p-fits : modulus ≤ 2 ^ 64
-p-fits = omega arith
+pub p_fits : modulus ≤ 2 ^ 64
+p_fits = omega arith
 
 -- key correctness
-pub scheme-correct : (e : Expander) (w : ℕ) → w < modulus → (s0 s1 : List ℕ) → Bytes 16 s0 → Bytes 16 s1 →
+pub scheme_correct : (e : Expander) (w : ℕ) → w < modulus → (s0 s1 : List ℕ) → Bytes 16 s0 → Bytes 16 s1 →
     (α q : Bits) → 0 < length q → length q ≤ length α → let c = key_correction (scheme e) w (bit_of α) s0 s1 in
     (share_at (scheme e) c s0 false q + share_at (scheme e) c s1 true q) % modulus ≡ cond (is_prefix q α) w 0
 unfolding field_scheme
-scheme-correct e = prefix-correct (scheme e) (scheme-lawful e)
+scheme_correct e = prefix_correct (scheme e) (scheme_lawful e)

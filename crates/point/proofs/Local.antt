@@ -19,22 +19,22 @@ Below k f g = (i : ℕ) → i < k → f i ≡ g i
 -- ---- only the levels above matter
 
 module _ {A : Type 0} (S : Scheme A) (s : List ℕ) (b : Bool) {c c' : ℕ → Correction A} {q q' : ℕ → Bool} where
-  pub node-local : (k : ℕ) → Below k c c' → Below k q q' → node S c s b q k ≡ node S c' s b q' k
+  pub node_local : (k : ℕ) → Below k c c' → Below k q q' → node S c s b q k ≡ node S c' s b q' k
   unfolding node
-  node-local zero hc hq = refl
-  node-local (suc k) hc hq = cc (node-local k (λ i h. hc i (omega arith)) (λ i h. hq i (omega arith)), hc k (omega arith), hq k (omega arith))
+  node_local zero hc hq = refl
+  node_local (suc k) hc hq = cc (node_local k (λ i h. hc i (omega arith)) (λ i h. hq i (omega arith)), hc k (omega arith), hq k (omega arith))
 
-  pub share-local : (k : ℕ) → Below k c c' → Below k q q' → share S c s b q k ≡ share S c' s b q' k
+  pub share_local : (k : ℕ) → Below k c c' → Below k q q' → share S c s b q k ≡ share S c' s b q' k
   unfolding share
-  share-local zero hc hq = refl
-  share-local (suc k) hc hq = cc (node-local k (λ i h. hc i (omega arith)) (λ i h. hq i (omega arith)), hc k (omega arith), hq k (omega arith))
+  share_local zero hc hq = refl
+  share_local (suc k) hc hq = cc (node_local k (λ i h. hc i (omega arith)) (λ i h. hq i (omega arith)), hc k (omega arith), hq k (omega arith))
 
 -- ---- one step from the prefix one bit shorter
 
 module _ {A : Type 0} (S : Scheme A) (c : ℕ → Correction A) (s : List ℕ) (b : Bool) (q : Bits) (x : Bool) where
-  node-before : node S c s b (bit_of (q ▹ x)) (length q) ≡ node_at S c s b q
-  node-before = node-local S s b (length q) (λ i h. refl) (get_or-append q (x ∷ []) false)
+  node_before : node S c s b (bit_of (q ▹ x)) (length q) ≡ node_at S c s b q
+  node_before = node_local S s b (length q) (λ i h. refl) (get_or-append q (x ∷ []) false)
 
-  pub node-step : node_at S c s b (q ▹ x) ≡ descend S (c (length q)) x (node_at S c s b q)
+  pub node_step : node_at S c s b (q ▹ x) ≡ descend S (c (length q)) x (node_at S c s b q)
   unfolding node
-  node-step = rw (length-append q (x ∷ []), add-one) (ap₂ (descend S (c (length q))) (get_or-append_seam q x [] false) node-before)
+  node_step = rw (length-append q (x ∷ []), add-one) (ap₂ (descend S (c (length q))) (get_or-append_seam q x [] false) node_before)

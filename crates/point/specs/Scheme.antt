@@ -14,4 +14,4 @@ pub record Scheme (A : Type 0) : Type 0 where
 pub record Lawful (A : Type 0) (S : Scheme A) (In : A → Type 0) : Type 0 where
   pub laws : CommutativeGroup A S.group In
   pub sized : (s : List ℕ) → Bytes 16 s → (j : ℕ) → Bytes 16 (S.block s j)
-  pub in-payload : (f : ℕ → List ℕ) → In (S.payload f)
+  pub in_payload : (f : ℕ → List ℕ) → In (S.payload f)

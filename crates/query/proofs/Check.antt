@@ -20,7 +20,7 @@ pub record Left (n len m w : ℕ) (q : List ℕ) : Type 0 where
       ≡ (eqb (length q) (6 + m * w) && spares_zero len (parts w m (drop 6 q)) && is_ascending (map (unpack len) (parts w m (drop 6 q))))
 
 module _ (n len m : ℕ) (q : List ℕ) (el : len ≡ prefix_length q) (em : m ≡ prefix_count q) where
-  all-tests : is_query n q
+  all_tests : is_query n q
       ≡ (leb len n
       && leb 1 m
       && leb m limit
@@ -28,29 +28,29 @@ module _ (n len m : ℕ) (q : List ℕ) (el : len ≡ prefix_length q) (em : m �
       && spares_zero len (parts (packed_length len) m (drop 6 q))
       && is_ascending (map (unpack len) (parts (packed_length len) m (drop 6 q))))
   unfolding is_query
-  all-tests = rw (el, em)
+  all_tests = rw (el, em)
 
   pub too_long : n < len → is_query n q ≡ false
-  too_long h = all-tests ∙ rw (lt-leb len n h)
+  too_long h = all_tests ∙ rw (lt-leb len n h)
 
   module _ (a : len ≤ n) where
-    pub no-prefix : m < 1 → is_query n q ≡ false
-    no-prefix h = all-tests ∙ rw (le-leb len n a, lt-leb 1 m h)
+    pub no_prefix : m < 1 → is_query n q ≡ false
+    no_prefix h = all_tests ∙ rw (le-leb len n a, lt-leb 1 m h)
 
     module _ (b : 1 ≤ m) where
       pub too_many : limit < m → is_query n q ≡ false
-      too_many h = all-tests ∙ rw (le-leb len n a, le-leb 1 m b, lt-leb m limit h)
+      too_many h = all_tests ∙ rw (le-leb len n a, le-leb 1 m b, lt-leb m limit h)
 
       pub counted : m ≤ limit → (w : ℕ) → w ≡ packed_length len → Left n len m w q
-      counted c w e = record { tests = all-tests ∙ rw (le-leb len n a, le-leb 1 m b, le-leb m limit c, e) }
+      counted c w e = record { tests = all_tests ∙ rw (le-leb len n a, le-leb 1 m b, le-leb m limit c, e) }
 
 module _ {n len m w : ℕ} {q : List ℕ} (t : Left n len m w q) where
   pub other_length : (length q ≡ 6 + m * w → ⊥) → is_query n q ≡ false
   other_length h = t.tests ∙ rw (ne_eqb (length q) (6 + m * w) h)
 
   module _ (l : length q ≡ 6 + m * w) where
-    pub spare-set : spares_zero len (parts w m (drop 6 q)) ≡ false → is_query n q ≡ false
-    spare-set z = t.tests ∙ rw (eq-eqb (length q) (6 + m * w) l, z)
+    pub spare_set : spares_zero len (parts w m (drop 6 q)) ≡ false → is_query n q ≡ false
+    spare_set z = t.tests ∙ rw (eq-eqb (length q) (6 + m * w) l, z)
 
-    pub order-left : spares_zero len (parts w m (drop 6 q)) ≡ true → is_query n q ≡ is_ascending (map (unpack len) (parts w m (drop 6 q)))
-    order-left z = t.tests ∙ rw (eq-eqb (length q) (6 + m * w) l, z)
+    pub order_left : spares_zero len (parts w m (drop 6 q)) ≡ true → is_query n q ≡ is_ascending (map (unpack len) (parts w m (drop 6 q)))
+    order_left z = t.tests ∙ rw (eq-eqb (length q) (6 + m * w) l, z)

@@ -23,21 +23,21 @@ reads = tt
 abbrev pub long : List Bits
 long = (true ∷ false ∷ false ∷ false ∷ false ∷ false ∷ false ∷ true ∷ false ∷ true ∷ []) ∷ (true ∷ true ∷ false ∷ false ∷ false ∷ false ∷ false ∷ false ∷ true ∷ true ∷ []) ∷ []
 
-abbrev pub long-bytes : List ℕ
-long-bytes = 0 ∷ 9 ∷ 0 ∷ 0 ∷ 0 ∷ 2 ∷ 129 ∷ 64 ∷ 192 ∷ 192 ∷ []
+abbrev pub long_bytes : List ℕ
+long_bytes = 0 ∷ 9 ∷ 0 ∷ 0 ∷ 0 ∷ 2 ∷ 129 ∷ 64 ∷ 192 ∷ 192 ∷ []
 
-pub long-query : query 9 long ≡ long-bytes
+pub long_query : query 9 long ≡ long_bytes
 unfolding writes
-long-query = refl
+long_query = refl
 
-pub long-read : (prefix_length long-bytes ≡ 10) × (prefix_count long-bytes ≡ 2) × (prefixes_of long-bytes ≡ long)
+pub long_read : (prefix_length long_bytes ≡ 10) × (prefix_count long_bytes ≡ 2) × (prefixes_of long_bytes ≡ long)
 unfolding reads
-long-read = (refl, refl, refl)
+long_read = (refl, refl, refl)
 
 -- It is a query for strings of 10 bits, and not for shorter ones.
-pub long-passes : (is_query 10 long-bytes ≡ true) × (is_query 9 long-bytes ≡ false)
+pub long_passes : (is_query 10 long_bytes ≡ true) × (is_query 9 long_bytes ≡ false)
 unfolding reads
-long-passes = (refl, refl)
+long_passes = (refl, refl)
 
 -- No prefix, a spare bit set, prefixes not ascending, one of them twice, a byte too few and a byte too many are refused.
 pub refused : (is_query 1 (0 ∷ 0 ∷ 0 ∷ 0 ∷ 0 ∷ 0 ∷ []) ≡ false)

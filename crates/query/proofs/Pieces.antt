@@ -10,92 +10,92 @@ use lib.Seq.{length-take-le}
 use lib.Dec.{leb}
 use Rattle.numbers.specs.Numbers.{big, from_little}
 use Rattle.places.specs.Places.{window, put_at}
-use Rattle.numbers.proofs.Endian.{big-length}
-use Rattle.places.proofs.Places.{window-inside, put_at-nil, put_at-outside, put_at-length, put_at-more, Grown, grown-room, grown-more}
+use Rattle.numbers.proofs.Endian.{big_length}
+use Rattle.places.proofs.Places.{window_inside, put_at_nil, put_at_outside, put_at_length, put_at_more, Grown, grown_room, grown_more}
 use Rattle.bits.specs.Strings.{Bits, ◌▹◌}
 use Rattle.bits.specs.Packing.{packed_length, pack, unpack}
 use Rattle.query.specs.Query.{packs, query, parts}
 use Rattle.query.specs.Prefix.{part}
 use Rattle.query.specs.Written.{fitting, both_children}
-use Rattle.query.proofs.Queries.{parts-length}
-use Rattle.query.proofs.Parts.{peel, parts-step}
-use Rattle.bits.proofs.Longer.{child-length}
+use Rattle.query.proofs.Queries.{parts_length}
+use Rattle.query.proofs.Parts.{peel, parts_step}
+use Rattle.bits.proofs.Longer.{child_length_lem}
 
 -- ---- one part
 
 module _ (w from : ℕ) (d : List ℕ) where
-  pub part-outside : length d < from + w → part w from d ≡ []
+  pub part_outside : length d < from + w → part w from d ≡ []
   unfolding part
-  part-outside h = rw (lt-leb (from + w) (length d) h)
+  part_outside h = rw (lt-leb (from + w) (length d) h)
 
   module _ (room : from + w ≤ length d) where
-    pub part-inside : part w from d ≡ take w (drop from d)
+    pub part_inside : part w from d ≡ take w (drop from d)
     unfolding part
-    part-inside = rw (le-leb (from + w) (length d) room)
+    part_inside = rw (le-leb (from + w) (length d) room)
 
     pub part_length : length (take w (drop from d)) ≡ w
     part_length = let h : w ≤ length (drop from d) = rw (length-drop from d) (omega arith) in length-take-le w (drop from d) h
 
-    pub part-size : length (part w from d) ≡ w
-    part-size = rw part-inside part_length
+    pub part_size : length (part w from d) ≡ w
+    part_size = rw part_inside part_length
 
 -- the next of m parts lies within, and so do those after it
-pub next-room : (m w from most : ℕ) → 0 < m → from + m * w ≤ most → (from + w ≤ most) × (from + w + (m - 1) * w ≤ most)
-next-room m w from most h room = let e = peel m w h in (omega arith, omega arith)
+pub next_room : (m w from most : ℕ) → 0 < m → from + m * w ≤ most → (from + w ≤ most) × (from + w + (m - 1) * w ≤ most)
+next_room m w from most h room = let e = peel m w h in (omega arith, omega arith)
 
 -- ---- what fits
 
 module _ (out : List ℕ) (at : ℕ) (bytes : List ℕ) where
-  pub fitting-inside : at + length bytes ≤ length out → fitting out at bytes ≡ bytes
+  pub fitting_inside : at + length bytes ≤ length out → fitting out at bytes ≡ bytes
   unfolding fitting
-  fitting-inside h = rw (le-leb (at + length bytes) (length out) h)
+  fitting_inside h = rw (le-leb (at + length bytes) (length out) h)
 
-  pub fitting-outside : length out < at + length bytes → fitting out at bytes ≡ []
+  pub fitting_outside : length out < at + length bytes → fitting out at bytes ≡ []
   unfolding fitting
-  fitting-outside h = rw (lt-leb (at + length bytes) (length out) h)
+  fitting_outside h = rw (lt-leb (at + length bytes) (length out) h)
 
   -- what does not fit is not written, and the place does not move
   pub not_written : length out < at + length bytes → (out ≡ put_at out at bytes) × (at ≡ at + length (fitting out at bytes))
-  not_written h = (sym (put_at-outside out at bytes h), rw (fitting-outside h) (omega arith))
+  not_written h = (sym (put_at_outside out at bytes h), rw (fitting_outside h) (omega arith))
 
   -- what fits is written, and the place after it is the end
-  pub all-written : (end : ℕ) → end ≡ at + length bytes → end ≤ length out → (after : List ℕ) → after ≡ put_at out at bytes
+  pub all_written : (end : ℕ) → end ≡ at + length bytes → end ≤ length out → (after : List ℕ) → after ≡ put_at out at bytes
       → (after ≡ put_at out at bytes) × (end ≡ at + length (fitting out at bytes))
-  all-written end e h after f = let i : at + length bytes ≤ length out = omega arith in (f, rw (fitting-inside i) e)
+  all_written end e h after f = let i : at + length bytes ≤ length out = omega arith in (f, rw (fitting_inside i) e)
 
 -- nothing to write
 pub none_written : (out : List ℕ) (at : ℕ) → (out ≡ put_at out at []) × (at ≡ at + length (fitting out at []))
-none_written out at = (sym (put_at-nil out at), go (leb (at + 0) (length out)) refl)
+none_written out at = (sym (put_at_nil out at), go (leb (at + 0) (length out)) refl)
   where
     go : (b : Bool) → leb (at + 0) (length out) ≡ b → at ≡ at + length (fitting out at [])
-    go true e = rw (fitting-inside out at [] (leb-true (at + 0) (length out) e)) (omega arith)
-    go false e = rw (fitting-outside out at [] (leb-false (at + 0) (length out) e)) (omega arith)
+    go true e = rw (fitting_inside out at [] (leb-true (at + 0) (length out) e)) (omega arith)
+    go false e = rw (fitting_outside out at [] (leb-false (at + 0) (length out) e)) (omega arith)
 
 -- A loop that has room for the whole goes on after a part that is written where it fits.
-pub grown-fitting : (d : List ℕ) (at : ℕ) (out : List ℕ) (here : ℕ) (x left whole : List ℕ) → Grown d at out here (x ++ left) whole
+pub grown_fitting : (d : List ℕ) (at : ℕ) (out : List ℕ) (here : ℕ) (x left whole : List ℕ) → Grown d at out here (x ++ left) whole
     → at + length whole ≤ length d → (out' : List ℕ) (here' : ℕ) → out' ≡ put_at out here x → here' ≡ here + length (fitting out here x)
     → Grown d at out' here' left whole
-grown-fitting d at out here x left whole g room out' here' e f =
-    let h : here + length x ≤ length out = grown-room d at out here x left whole g room in
-    grown-more d at out here x left whole g room out' here' e (f ∙ rw (fitting-inside out here x h))
+grown_fitting d at out here x left whole g room out' here' e f =
+    let h : here + length x ≤ length out = grown_room d at out here x left whole g room in
+    grown_more d at out here x left whole g room out' here' e (f ∙ rw (fitting_inside out here x h))
 
 -- what is written into has its length still
-pub grown-length : (d : List ℕ) (at : ℕ) (out : List ℕ) (here : ℕ) (left whole : List ℕ) → Grown d at out here left whole → length out ≡ length d
-grown-length d at out here left whole g = ap length g.1 ∙ put_at-length d at g.0
+pub grown_length : (d : List ℕ) (at : ℕ) (out : List ℕ) (here : ℕ) (left whole : List ℕ) → Grown d at out here left whole → length out ≡ length d
+grown_length d at out here left whole g = ap length g.1 ∙ put_at_length d at g.0
 
 -- ---- both children of a prefix, `size` bytes each
 
 module _ (s : Bits) (size : ℕ) (e : size ≡ packed_length (length s + 1)) where
-  pub both-length : length (both_children s) ≡ size + size
-  both-length = length-append (pack (s ▹ false)) (pack (s ▹ true)) ∙ rw (child-length s false, child-length s true, e)
+  pub both_length : length (both_children s) ≡ size + size
+  both_length = length-append (pack (s ▹ false)) (pack (s ▹ true)) ∙ rw (child_length_lem s false, child_length_lem s true, e)
 
   -- one child put after the other
-  pub both-put : (d : List ℕ) (at : ℕ) → at + size + size ≤ length d → (o₁ o₂ : List ℕ) → o₁ ≡ put_at d at (pack (s ▹ false))
+  pub both_put : (d : List ℕ) (at : ℕ) → at + size + size ≤ length d → (o₁ o₂ : List ℕ) → o₁ ≡ put_at d at (pack (s ▹ false))
       → o₂ ≡ put_at o₁ (at + size) (pack (s ▹ true)) → o₂ ≡ put_at d at (both_children s)
-  both-put d at h o₁ o₂ e₁ e₂ =
-      let l₀ : length (pack (s ▹ false)) ≡ size = child-length s false ∙ sym e in
-      let l₁ : length (pack (s ▹ true)) ≡ size = child-length s true ∙ sym e in
-      e₂ ∙ rw (e₁, ← l₀) (put_at-more d at (pack (s ▹ false)) (pack (s ▹ true)) (omega arith))
+  both_put d at h o₁ o₂ e₁ e₂ =
+      let l₀ : length (pack (s ▹ false)) ≡ size = child_length_lem s false ∙ sym e in
+      let l₁ : length (pack (s ▹ true)) ≡ size = child_length_lem s true ∙ sym e in
+      e₂ ∙ rw (e₁, ← l₀) (put_at_more d at (pack (s ▹ false)) (pack (s ▹ true)) (omega arith))
 
 -- ---- strings and numbers from a place on
 
@@ -103,28 +103,28 @@ module _ (s : Bits) (size : ℕ) (e : size ≡ packed_length (length s + 1)) whe
 abbrev pub strings_at : ℕ → ℕ → ℕ → List ℕ → List Bits
 strings_at k m at bytes = map (unpack k) (parts (packed_length k) m (drop at bytes))
 
-pub strings-length : (k m from : ℕ) (d : List ℕ) → length (strings_at k m from d) ≡ m
-strings-length k m from d = length-map (parts (packed_length k) m (drop from d)) (unpack k) ∙ parts-length (packed_length k) m (drop from d)
+pub strings_length : (k m from : ℕ) (d : List ℕ) → length (strings_at k m from d) ≡ m
+strings_length k m from d = length-map (parts (packed_length k) m (drop from d)) (unpack k) ∙ parts_length (packed_length k) m (drop from d)
 
-pub strings-none : (k m from : ℕ) (d : List ℕ) → m ≤ 0 → strings_at k m from d ≡ []
+pub strings_none : (k m from : ℕ) (d : List ℕ) → m ≤ 0 → strings_at k m from d ≡ []
 unfolding parts
-strings-none k zero from d h = refl
-strings-none k (suc m) from d h = absurd (omega arith)
+strings_none k zero from d h = refl
+strings_none k (suc m) from d h = absurd (omega arith)
 
-pub strings-step : (k w : ℕ) → w ≡ packed_length k → (d : List ℕ) (m from : ℕ) → 0 < m
+pub strings_step : (k w : ℕ) → w ≡ packed_length k → (d : List ℕ) (m from : ℕ) → 0 < m
     → strings_at k m from d ≡ unpack k (take w (drop from d)) ∷ strings_at k (m - 1) (from + w) d
-strings-step k w e d m from h = rw (e, parts-step (packed_length k) m from d h)
+strings_step k w e d m from h = rw (e, parts_step (packed_length k) m from d h)
 
 -- m numbers of 8 bytes each
 abbrev pub numbers_at : ℕ → ℕ → List ℕ → List ℕ
 numbers_at m at bytes = map from_little (parts 8 m (drop at bytes))
 
-pub numbers-length : (m place : ℕ) (d : List ℕ) → length (numbers_at m place d) ≡ m
-numbers-length m place d = length-map (parts 8 m (drop place d)) from_little ∙ parts-length 8 m (drop place d)
+pub numbers_length : (m place : ℕ) (d : List ℕ) → length (numbers_at m place d) ≡ m
+numbers_length m place d = length-map (parts 8 m (drop place d)) from_little ∙ parts_length 8 m (drop place d)
 
-pub numbers-step : (m place : ℕ) (d : List ℕ) → 0 < m → place + 8 ≤ length d
+pub numbers_step : (m place : ℕ) (d : List ℕ) → 0 < m → place + 8 ≤ length d
     → numbers_at m place d ≡ from_little (window 8 place d) ∷ numbers_at (m - 1) (place + 8) d
-numbers-step m place d h room = rw (parts-step 8 m place d h, window-inside 8 place d room)
+numbers_step m place d h room = rw (parts_step 8 m place d h, window_inside 8 place d room)
 
 -- ---- the kept strings
 
@@ -134,20 +134,20 @@ numbers-step m place d h room = rw (parts-step 8 m place d h, window-inside 8 pl
 abbrev pub fields : ℕ → ℕ → List ℕ
 fields k count = big 2 k ++ big 4 count
 
-pub fields-length : (k count : ℕ) → length (fields k count) ≡ 6
-fields-length k count = length-append (big 2 k) (big 4 count) ∙ rw (big-length 2 k, big-length 4 count)
+pub fields_length : (k count : ℕ) → length (fields k count) ≡ 6
+fields_length k count = length-append (big 2 k) (big 4 count) ∙ rw (big_length 2 k, big_length 4 count)
 
-pub query-fields : (k : ℕ) (qs : List Bits) → query k qs ≡ fields k (length qs) ++ packs qs
+pub query_fields : (k : ℕ) (qs : List Bits) → query k qs ≡ fields k (length qs) ++ packs qs
 unfolding query
-query-fields k qs = sym (append_assoc (big 2 k) (big 4 (length qs)) (packs qs))
+query_fields k qs = sym (append_assoc (big 2 k) (big 4 (length qs)) (packs qs))
 
-pub query-size : (k : ℕ) (qs : List Bits) → length (query k qs) ≡ 6 + length (packs qs)
-query-size k qs = ap length (query-fields k qs) ∙ length-append (fields k (length qs)) (packs qs) ∙ rw (fields-length k (length qs))
+pub query_size : (k : ℕ) (qs : List Bits) → length (query k qs) ≡ 6 + length (packs qs)
+query_size k qs = ap length (query_fields k qs) ∙ length-append (fields k (length qs)) (packs qs) ∙ rw (fields_length k (length qs))
 
 -- the fields put, and the prefixes after them, are the query put
-pub query-put : (k count : ℕ) (qs : List Bits) → count ≡ length qs → (d : List ℕ) (at : ℕ) → at + length (query k qs) ≤ length d
+pub query_put : (k count : ℕ) (qs : List Bits) → count ≡ length qs → (d : List ℕ) (at : ℕ) → at + length (query k qs) ≤ length d
     → (o₁ o₂ : List ℕ) → o₁ ≡ put_at d at (fields k count) → o₂ ≡ put_at o₁ (at + 6) (packs qs) → o₂ ≡ put_at d at (query k qs)
-query-put k count qs c d at room o₁ o₂ e₁ e₂ =
-    let l : length (fields k count) ≡ 6 = fields-length k count in
-    let p : query k qs ≡ fields k count ++ packs qs = query-fields k qs ∙ rw c in
-    e₂ ∙ rw (e₁, p, ← l) (put_at-more d at (fields k count) (packs qs) (omega (arith, query-size k qs)))
+query_put k count qs c d at room o₁ o₂ e₁ e₂ =
+    let l : length (fields k count) ≡ 6 = fields_length k count in
+    let p : query k qs ≡ fields k count ++ packs qs = query_fields k qs ∙ rw c in
+    e₂ ∙ rw (e₁, p, ← l) (put_at_more d at (fields k count) (packs qs) (omega (arith, query_size k qs)))

@@ -11,21 +11,21 @@ use Rattle.query.specs.Query.{prefix_length}
 use Rattle.query.specs.Prefix.{part, packed_prefix}
 
 -- where k bytes hold more than i parts, part i ends within them
-pub part-ends : (k w i : ℕ) → 0 < w → i < k / w → i * w + w ≤ k
-part-ends k w i h l = rw (suc-mul i w) at ((le-div_iff_mul-le {k = w} {x = suc i} {y = k} h).0 l)
+pub part_ends : (k w i : ℕ) → 0 < w → i < k / w → i * w + w ≤ k
+part_ends k w i h l = rw (suc-mul i w) at ((le-div_iff_mul-le {k = w} {x = suc i} {y = k} h).0 l)
 
 -- where they hold no more, it does not
-pub part-past : (k w i : ℕ) → 0 < w → k / w ≤ i → k < i * w + w
-part-past k w i h l = rw (suc-mul i w) at ((div-lt_iff_lt-mul {k = w} {x = k} {y = suc i} h).0 (omega arith))
+pub part_past : (k w i : ℕ) → 0 < w → k / w ≤ i → k < i * w + w
+part_past k w i h l = rw (suc-mul i w) at ((div-lt_iff_lt-mul {k = w} {x = k} {y = suc i} h).0 (omega arith))
 
 module _ (q : List ℕ) (i len w : ℕ) (el : len ≡ prefix_length q) (ew : w ≡ packed_length len) where
   placed : packed_prefix q i ≡ part w (6 + i * w) q
   placed = rw (ew, el)
 
-  pub prefix-inside : 6 + i * w + w ≤ length q → (size : ℕ) → size ≡ w → packed_prefix q i ≡ take size (drop (6 + i * w) q)
+  pub prefix_inside : 6 + i * w + w ≤ length q → (size : ℕ) → size ≡ w → packed_prefix q i ≡ take size (drop (6 + i * w) q)
   unfolding part
-  prefix-inside h size e = placed ∙ rw (le-leb (6 + i * w + w) (length q) h, e)
+  prefix_inside h size e = placed ∙ rw (le-leb (6 + i * w + w) (length q) h, e)
 
-  pub prefix-outside : length q < 6 + i * w + w → packed_prefix q i ≡ []
+  pub prefix_outside : length q < 6 + i * w + w → packed_prefix q i ≡ []
   unfolding part
-  prefix-outside h = placed ∙ rw (lt-leb (6 + i * w + w) (length q) h)
+  prefix_outside h = placed ∙ rw (lt-leb (6 + i * w + w) (length q) h)

@@ -32,9 +32,9 @@ limit = 131070
 pub record IsQuery (n : ℕ) (bytes : List ℕ) : Type 0 where
   pub k : ℕ
   pub prefixes : List Bits
-  pub not-longer : suc k ≤ n
+  pub not_longer : suc k ≤ n
   pub in_field : k < 65536
-  pub one-length : OfLength (suc k) prefixes
+  pub one_length : OfLength (suc k) prefixes
   pub some : 1 ≤ length prefixes
   pub not_more : length prefixes ≤ limit
   pub ascending : Ascending prefixes

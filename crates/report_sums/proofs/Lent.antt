@@ -8,7 +8,7 @@ use native.Mathlib.Numerals.{add-one}
 use native.Mathlib.Omega.{arith}
 use lib.ListN.{length, take, drop}
 use Rattle.places.specs.Places.{window}
-use Rattle.places.proofs.Places.{window-inside}
+use Rattle.places.proofs.Places.{window_inside}
 use Rattle.expander.specs.declared.Expander.{Expander}
 use Rattle.group.specs.Modular.{field}
 use Rattle.point.specs.Evaluation.{share}
@@ -24,47 +24,47 @@ module _ (n seeds : ℕ) (shares : List ℕ) {l : ℕ} (e : l ≡ public_share_l
       let none : length shares / public_share_length n ≡ 0 = ap (λ (m : ℕ). length shares / m) (sym e ∙ z) ∙ div-zero (length shares) in
       sym (ap (min seeds) none ∙ min-zero seeds)
 
-  pub count-seeds : seeds < length shares / l → seeds ≡ min seeds (length shares / public_share_length n)
-  count-seeds h = sym (ap (λ (m : ℕ). min seeds (length shares / m)) (sym e) ∙ min-eq_left (omega arith))
+  pub count_seeds : seeds < length shares / l → seeds ≡ min seeds (length shares / public_share_length n)
+  count_seeds h = sym (ap (λ (m : ℕ). min seeds (length shares / m)) (sym e) ∙ min-eq_left (omega arith))
 
-  pub count-shares : length shares / l ≤ seeds → length shares / l ≡ min seeds (length shares / public_share_length n)
-  count-shares h = sym (ap (λ (m : ℕ). min seeds (length shares / m)) (sym e) ∙ min-eq_right h)
+  pub count_shares : length shares / l ≤ seeds → length shares / l ≡ min seeds (length shares / public_share_length n)
+  count_shares h = sym (ap (λ (m : ℕ). min seeds (length shares / m)) (sym e) ∙ min-eq_right h)
 
 -- ---- where
 
 -- piece i of l, where m holds more than i whole ones, ends within m
-pub pieces-inside : (l i m : ℕ) → i < m / l → l * i + l ≤ m
-pieces-inside l i m h =
+pub pieces_inside : (l i m : ℕ) → i < m / l → l * i + l ≤ m
+pieces_inside l i m h =
     let most : l * suc i ≤ l * (m / l) = mul-le-mul_left l h in
     omega (arith, mul-suc l i, div-add-mod m l)
 
 module _ (n : ℕ) (seeds shares : List ℕ) (i : ℕ) (h : i < report_count n seeds shares) where
-  seed-inside : 16 * i + 16 ≤ length seeds
-  seed-inside = pieces-inside 16 i (length seeds) (omega (arith, min-le_left (length seeds / 16) (length shares / public_share_length n)))
+  seed_inside : 16 * i + 16 ≤ length seeds
+  seed_inside = pieces_inside 16 i (length seeds) (omega (arith, min-le_left (length seeds / 16) (length shares / public_share_length n)))
 
-  pub share-inside : {l : ℕ} → l ≡ public_share_length n → l * i + l ≤ length shares
-  share-inside {l} e =
+  pub share_inside : {l : ℕ} → l ≡ public_share_length n → l * i + l ≤ length shares
+  share_inside {l} e =
       let less : i < length shares / l =
       rw e (omega (arith, min-le_right (length seeds / 16) (length shares / public_share_length n))) in
-      pieces-inside l i (length shares) less
+      pieces_inside l i (length shares) less
 
   -- the share of report i, from the seed and the part of the slice that the code takes
-  pub lent-part : (e : Expander) (b : Bool) (q : ℕ → Bool) (k : ℕ) {l r : ℕ} {s : List ℕ} → l ≡ public_share_length n → s ≡ window 16 (16 * i) seeds
+  pub lent_part : (e : Expander) (b : Bool) (q : ℕ → Bool) (k : ℕ) {l r : ℕ} {s : List ℕ} → l ≡ public_share_length n → s ≡ window 16 (16 * i) seeds
       → r ≡ share (scheme e) (read_correction n (take (l * i + l - l * i) (drop (l * i) shares))) s b q k → r ≡ lent_share e n b seeds shares q k i
   unfolding lent_share
-  lent-part e b q k {l} f g a =
+  lent_part e b q k {l} f g a =
       let whole : l * i + l - l * i ≡ l = omega arith in
       let part : take (l * i + l - l * i) (drop (l * i) shares) ≡ public_share_at n shares i =
       ap (λ (m : ℕ). take m (drop (l * i) shares)) whole ∙ ap (λ (m : ℕ). take m (drop (m * i) shares)) f in
-      let seed : _ ≡ seed_at seeds i = g ∙ window-inside 16 (16 * i) seeds seed-inside in
+      let seed : _ ≡ seed_at seeds i = g ∙ window_inside 16 (16 * i) seeds seed_inside in
       a ∙ ap₂ (λ (c : List ℕ) (s : List ℕ). share (scheme e) (read_correction n c) s b q k) part seed
 
 -- ---- their sum
 
 module _ (test : ℕ → Bool) (f : ℕ → ℕ) where
-  pub sum-none : 0 ≡ sum_where field test 0 f
+  pub sum_none : 0 ≡ sum_where field test 0 f
   unfolding sum_where
-  sum-none = refl
+  sum_none = refl
 
   pub sum_more : (m : ℕ) {s r : ℕ} → s ≡ sum_where field test m f → r ≡ cond (test m) (field.add s (f m)) s → r ≡ sum_where field test (m + 1) f
   unfolding sum_where

@@ -10,7 +10,7 @@ use Rattle.bits.specs.Strings.{Bits}
 use Rattle.calls.specs.Bounds.{most_bits}
 use Rattle.calls.specs.Causes.{Cause, number_due}
 use Rattle.calls.proofs.Decisions.{bounds}
-use Rattle.calls.proofs.Judged.{Clear, first-due, second-due, number-clear, threshold-numbered, ◌&◌}
+use Rattle.calls.proofs.Judged.{Clear, first_due, second_due, number_clear, threshold_numbered, ◌&◌}
 use Rattle.expander.specs.Expander.{choice_of}
 use Rattle.expander.specs.declared.Expander.{Expander}
 use Rattle.expander.specs.declared.Choice.{Choice}
@@ -19,14 +19,14 @@ use Rattle.expander.proofs.Chosen.{unknown}
 use Rattle.levels.specs.Levels.{total_of, ending_with, no_room, ending_of, ending_by, ending}
 use Rattle.levels.proofs.Closing.{same_parts}
 use Rattle.search.specs.Search.{Lent, total, total_under, reports, record_bytes, list_bytes, queries_fit, lent_causes, space_causes, search_number, record_length, list_length, record_after, list_after, search_ending, reaches_of}
-use Rattle.search.proofs.Outcome.{Bearing, threshold-other}
-use Rattle.search.proofs.Areas.{record-length-refused, list-length-refused, list-refused, record-refused, record-zeroed, record-length, list_length_lem}
+use Rattle.search.proofs.Outcome.{Bearing, threshold_other}
+use Rattle.search.proofs.Areas.{record_length_refused, list_length_refused, list_refused, record_refused, record_zeroed, record_length_lem, list_length_lem}
 
 -- ---- the number that is due
 
-due-other : (k : ℕ) (cs : List Cause) → Bearing k cs → 0 ≢ k → number_due cs ≢ k
-due-other k [] a h = h
-due-other k (c ∷ cs) a h = go c.test (due-other k cs a.1 h)
+due_other : (k : ℕ) (cs : List Cause) → Bearing k cs → 0 ≢ k → number_due cs ≢ k
+due_other k [] a h = h
+due_other k (c ∷ cs) a h = go c.test (due_other k cs a.1 h)
   where
     go : (b : Bool) → number_due cs ≢ k → cond b c.number (number_due cs) ≢ k
     go true f = a.0
@@ -46,47 +46,47 @@ module _ (s : Lent) where
   pub refused : (number : ℕ) → number ≡ number_due (lent_causes s) → number ≢ 0 → Settled number 0 0 s.record_area s.list_area
   unfolding search_number
   refused number e h =
-      let n : number ≡ search_number s = e ∙ sym (first-due (lent_causes s) (space_causes s) (λ z. h (e ∙ z))) in
+      let n : number ≡ search_number s = e ∙ sym (first_due (lent_causes s) (space_causes s) (λ z. h (e ∙ z))) in
       let some : search_number s ≢ 0 = λ z. h (n ∙ z) in
       let other : search_number s ≢ 11 =
-      λ z. due-other 11 (lent_causes s) (omega arith & threshold-other s.weighted & omega arith & omega arith & omega arith & omega arith & omega arith & omega arith & tt) (omega arith)
+      λ z. due_other 11 (lent_causes s) (omega arith & threshold_other s.weighted & omega arith & omega arith & omega arith & omega arith & omega arith & omega arith & tt) (omega arith)
       (sym e ∙ n ∙ z) in
-      same_parts n (sym (record-length-refused s some)) (sym (list-length-refused s some)) (sym (record-refused s some other)) (sym (list-refused s some))
+      same_parts n (sym (record_length_refused s some)) (sym (list_length_refused s some)) (sym (record_refused s some other)) (sym (list_refused s some))
 
   -- ---- where none of these causes applies
 
   module _ (clear : number_due (lent_causes s) ≡ 0) where
     none : Clear (lent_causes s)
-    none = number-clear (lent_causes s) (omega arith & threshold-numbered s.weighted & omega arith & omega arith & omega arith & omega arith & omega arith & omega arith & tt) clear
+    none = number_clear (lent_causes s) (omega arith & threshold_numbered s.weighted & omega arith & omega arith & omega arith & omega arith & omega arith & omega arith & tt) clear
 
-    pub within-bounds : (1 ≤ s.n) × (s.n ≤ 256)
-    within-bounds = bounds most_bits s.n none.0
+    pub within_bounds : (1 ≤ s.n) × (s.n ≤ 256)
+    within_bounds = bounds most_bits s.n none.0
 
-    pub never-unknown : choice_of s.expander ≡ Unknown → ⊥
-    never-unknown h = true≢false (sym (not-false _ none.1.1.0) ∙ unknown s.expander h)
+    pub never_unknown : choice_of s.expander ≡ Unknown → ⊥
+    never_unknown h = true≢false (sym (not-false _ none.1.1.0) ∙ unknown s.expander h)
 
   -- ---- as its levels end
 
   module _ (clear : number_due (lent_causes s) ≡ 0) where
-    number-last : search_number s ≡ cond no_room_lem 11 0
+    number_last : search_number s ≡ cond no_room_lem 11 0
     unfolding search_number
-    number-last = second-due (lent_causes s) (space_causes s) (none clear)
+    number_last = second_due (lent_causes s) (space_causes s) (none clear)
 
     -- the outcome of the call is that of its levels
-    call-ending : ending_with (search_number s) (record_length s) (list_length s) (record_after s) (list_after s)
+    call_ending : ending_with (search_number s) (record_length s) (list_length s) (record_after s) (list_after s)
         ≡ ending_of (record_bytes s) (list_bytes s) (queries_fit s) s.record_area s.list_area
     unfolding record_after list_after
-    call-ending = go no_room_lem refl
+    call_ending = go no_room_lem refl
       where
         go : (b : Bool) → no_room_lem ≡ b → ending_with (search_number s) (record_length s) (list_length s) (record_after s) (list_after s)
             ≡ ending_of (record_bytes s) (list_bytes s) (queries_fit s) s.record_area s.list_area
         go true h =
-            let a : search_number s ≡ 11 = number-last ∙ ap (λ (b : Bool). cond b 11 0) h in
+            let a : search_number s ≡ 11 = number_last ∙ ap (λ (b : Bool). cond b 11 0) h in
             let some : search_number s ≢ 0 = λ y. omega (arith, a, y) in
-            rw h (same_parts a (record-length-refused s some) (list-length-refused s some) (record-zeroed s a) (list-refused s some))
+            rw h (same_parts a (record_length_refused s some) (list_length_refused s some) (record_zeroed s a) (list_refused s some))
         go false h =
-            let a : search_number s ≡ 0 = number-last ∙ ap (λ (b : Bool). cond b 11 0) h in
-            rw h (same_parts a (record-length s a) (list_length_lem s a) (rw a) (rw a))
+            let a : search_number s ≡ 0 = number_last ∙ ap (λ (b : Bool). cond b 11 0) h in
+            rw h (same_parts a (record_length_lem s a) (list_length_lem s a) (rw a) (rw a))
 
     module _ (e : Expander) (known : choice_of s.expander ≡ Known e) where
       abbrev T : Bits → ℕ
@@ -96,10 +96,10 @@ module _ (s : Lent) where
       unfolding total_under
       same_total = ap (λ (c : Choice). total_under c s) known
 
-      same-ending : ending_of (record_bytes s) (list_bytes s) (queries_fit s) s.record_area s.list_area
+      same_ending : ending_of (record_bytes s) (list_bytes s) (queries_fit s) s.record_area s.list_area
           ≡ ending_by (reaches_of s) T (reports s) s.n s.record_area s.list_area
       unfolding record_bytes list_bytes queries_fit
-      same-ending = ap (λ (f : Bits → ℕ). ending_by (reaches_of s) f (reports s) s.n s.record_area s.list_area) same_total
+      same_ending = ap (λ (f : Bits → ℕ). ending_by (reaches_of s) f (reports s) s.n s.record_area s.list_area) same_total
 
       pub settled : (last number record_length' list_length' : ℕ) (record_area' list_area' : List ℕ) → last + 1 ≡ s.n
           → ending_with number record_length' list_length' record_area' list_area'
@@ -111,4 +111,4 @@ module _ (s : Lent) where
           told : ending_with number record_length' list_length' record_area' list_area'
               ≡ ending (record { t = s.t; weighted = s.weighted }) e s.n s.seeds0 s.shares0 s.seeds1 s.shares1 s.record_area s.list_area
               → Settled number record_length' list_length' record_area' list_area'
-          told g = g ∙ sym same-ending ∙ sym call-ending
+          told g = g ∙ sym same_ending ∙ sym call_ending

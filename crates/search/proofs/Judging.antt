@@ -22,11 +22,11 @@ module _ (a b : List ℕ) where
       go [] [] h = absurd (h refl)
       go [] (y ∷ ys) h = refl
       go (x ∷ xs) [] h = refl
-      go (x ∷ xs) (y ∷ ys) h = rw (go xs ys (λ e. h (omega arith))) (no-right (eqb x y))
+      go (x ∷ xs) (y ∷ ys) h = rw (go xs ys (λ e. h (omega arith))) (no_right (eqb x y))
         where
-          no-right : (c : Bool) → (c && false) ≡ false
-          no-right true = refl
-          no-right false = refl
+          no_right : (c : Bool) → (c && false) ≡ false
+          no_right true = refl
+          no_right false = refl
 
   module _ (i : ℕ) (h : i < length a) (g : i < length b) where
     same_step : same_bytes (drop i a) (drop i b) ≡ (eqb (get_or a i 0) (get_or b i 0) && same_bytes (drop (i + 1) a) (drop (i + 1) b))
@@ -35,8 +35,8 @@ module _ (a b : List ℕ) where
     pub same_here : get_or a i 0 ≡ get_or b i 0 → same_bytes (drop i a) (drop i b) ≡ same_bytes (drop (i + 1) a) (drop (i + 1) b)
     same_here e = same_step ∙ rw (eq-eqb (get_or a i 0) (get_or b i 0) e)
 
-    pub other-here : get_or a i 0 ≢ get_or b i 0 → same_bytes (drop i a) (drop i b) ≡ false
-    other-here e = same_step ∙ rw (ne_eqb (get_or a i 0) (get_or b i 0) e)
+    pub other_here : get_or a i 0 ≢ get_or b i 0 → same_bytes (drop i a) (drop i b) ≡ false
+    other_here e = same_step ∙ rw (ne_eqb (get_or a i 0) (get_or b i 0) e)
 
   pub same_end : (i : ℕ) → length a ≤ i → length b ≤ i → same_bytes (drop i a) (drop i b) ≡ true
   same_end i h g = rw (drop_of_length-le a h, drop_of_length-le b g)
@@ -44,11 +44,11 @@ module _ (a b : List ℕ) where
 -- ---- two tests that are told by their opposites
 
 module _ (x y r : Bool) (e : r ≡ not x) where
-  pub first-applies : not r ≡ true → true ≡ (x || y)
-  first-applies h = rw (not-false x (sym e ∙ not-true r h))
+  pub first_applies : not r ≡ true → true ≡ (x || y)
+  first_applies h = rw (not-false x (sym e ∙ not-true r h))
 
-  pub second-tells : (q : Bool) → not r ≡ false → q ≡ not y → not q ≡ (x || y)
-  second-tells q h f = rw (not-true x (sym e ∙ not-false r h), f) (twice y)
+  pub second_tells : (q : Bool) → not r ≡ false → q ≡ not y → not q ≡ (x || y)
+  second_tells q h f = rw (not-true x (sym e ∙ not-false r h), f) (twice y)
     where
       twice : (b : Bool) → not (not b) ≡ b
       twice true = refl

@@ -12,29 +12,29 @@ use Rattle.group.specs.Group.{Group}
 use Rattle.group.specs.Modular.{p, field}
 use Rattle.query.specs.Query.{parts}
 use Rattle.query.proofs.Pieces as pieces
-use Rattle.query.proofs.Pieces.{numbers_at, numbers-step}
+use Rattle.query.proofs.Pieces.{numbers_at, numbers_step}
 use Rattle.shares.specs.ShareNumbers.{numbers, added, all_below}
 
 -- ---- how many
 
-pub added-length : (G : Group ℕ) (xs ys : List ℕ) → length xs ≡ length ys → length (added G xs ys) ≡ length xs
-added-length G [] ys l = refl
-added-length G (x ∷ xs) [] l = absurd (omega arith)
-added-length G (x ∷ xs) (y ∷ ys) l = omega (arith, added-length G xs ys (omega arith))
+pub added_length : (G : Group ℕ) (xs ys : List ℕ) → length xs ≡ length ys → length (added G xs ys) ≡ length xs
+added_length G [] ys l = refl
+added_length G (x ∷ xs) [] l = absurd (omega arith)
+added_length G (x ∷ xs) (y ∷ ys) l = omega (arith, added_length G xs ys (omega arith))
 
-pub numbers-length : (s : List ℕ) → length (numbers s) ≡ length s / 8
-numbers-length s = pieces.numbers-length (length s / 8) 0 s
+pub numbers_length : (s : List ℕ) → length (numbers s) ≡ length s / 8
+numbers_length s = pieces.numbers_length (length s / 8) 0 s
 
 -- ---- numbers below p
 
 module _ (m place : ℕ) (s : List ℕ) (h : 0 < m) (room : place + 8 ≤ length s) (x : ℕ) (e : x ≡ from_little (window 8 place s)) where
-  pub below-yes : x < p → all_below (numbers_at m place s) ≡ all_below (numbers_at (m - 1) (place + 8) s)
+  pub below_yes : x < p → all_below (numbers_at m place s) ≡ all_below (numbers_at (m - 1) (place + 8) s)
   unfolding all_below
-  below-yes l = rw (numbers-step m place s h room, ← e, lt-ltb x p l)
+  below_yes l = rw (numbers_step m place s h room, ← e, lt-ltb x p l)
 
-  pub below-no : p ≤ x → all_below (numbers_at m place s) ≡ false
+  pub below_no : p ≤ x → all_below (numbers_at m place s) ≡ false
   unfolding all_below
-  below-no l = rw (numbers-step m place s h room, ← e, le-ltb x p l)
+  below_no l = rw (numbers_step m place s h room, ← e, le-ltb x p l)
 
 pub below_none : (m place : ℕ) (s : List ℕ) → m ≤ 0 → all_below (numbers_at m place s) ≡ true
 unfolding parts all_below
@@ -52,8 +52,8 @@ module _ (s0 s1 : List ℕ) where
   abbrev pub added_from : ℕ → ℕ → List ℕ
   added_from m place = added field (numbers_at m place s0) (numbers_at m place s1)
 
-  pub added-step : (m place : ℕ) → 0 < m → place + 8 ≤ length s0 → place + 8 ≤ length s1 → added_from m place ≡ added_at place ∷ added_from (m - 1) (place + 8)
-  added-step m place h room0 room1 = rw (numbers-step m place s0 h room0, numbers-step m place s1 h room1)
+  pub added_step : (m place : ℕ) → 0 < m → place + 8 ≤ length s0 → place + 8 ≤ length s1 → added_from m place ≡ added_at place ∷ added_from (m - 1) (place + 8)
+  added_step m place h room0 room1 = rw (numbers_step m place s0 h room0, numbers_step m place s1 h room1)
 
   pub added_none : (m place : ℕ) → m ≤ 0 → added_from m place ≡ []
   unfolding parts

@@ -5,40 +5,40 @@ use Rattle.group.specs.Modular.{modulus}
 use Rattle.signed.specs.SignedReading.{embed, signed_in}
 
 -- (p − 1) ÷ 2 reads as itself, and (p + 1) ÷ 2 as −(p − 1) ÷ 2
-pub reads-largest : signed_in modulus 9223372034707292160 ≡ pos 9223372034707292160
+pub reads_largest : signed_in modulus 9223372034707292160 ≡ pos 9223372034707292160
 unfolding signed_in
-reads-largest = refl
+reads_largest = refl
 
-pub reads-least : signed_in modulus 9223372034707292161 ≡ negsuc 9223372034707292159
+pub reads_least : signed_in modulus 9223372034707292161 ≡ negsuc 9223372034707292159
 unfolding signed_in
-reads-least = refl
+reads_least = refl
 
 -- p − 5 reads as −5, p − 1 as −1, and p, which is no group number, as 0
-pub reads-five : signed_in modulus 18446744069414584316 ≡ negsuc 4
+pub reads_five : signed_in modulus 18446744069414584316 ≡ negsuc 4
 unfolding signed_in
-reads-five = refl
+reads_five = refl
 
-pub reads-one : signed_in modulus 18446744069414584320 ≡ negsuc 0
+pub reads_one : signed_in modulus 18446744069414584320 ≡ negsuc 0
 unfolding signed_in
-reads-one = refl
+reads_one = refl
 
-pub reads-p : signed_in modulus 18446744069414584321 ≡ pos 0
+pub reads_p : signed_in modulus 18446744069414584321 ≡ pos 0
 unfolding signed_in
-reads-p = refl
+reads_p = refl
 
 -- −32,768, −1, 0 and 32,767 as group numbers
-pub embeds-least : embed modulus (negsuc 32767) ≡ 18446744069414551553
+pub embeds_least : embed modulus (negsuc 32767) ≡ 18446744069414551553
 unfolding embed
-embeds-least = refl
+embeds_least = refl
 
-pub embeds-minus-one : embed modulus (negsuc 0) ≡ 18446744069414584320
+pub embeds_minus_one : embed modulus (negsuc 0) ≡ 18446744069414584320
 unfolding embed
-embeds-minus-one = refl
+embeds_minus_one = refl
 
-pub embeds-zero : embed modulus (pos 0) ≡ 0
+pub embeds_zero : embed modulus (pos 0) ≡ 0
 unfolding embed
-embeds-zero = refl
+embeds_zero = refl
 
-pub embeds-largest : embed modulus (pos 32767) ≡ 32767
+pub embeds_largest : embed modulus (pos 32767) ≡ 32767
 unfolding embed
-embeds-largest = refl
+embeds_largest = refl

@@ -17,14 +17,14 @@ use Rattle.signed.specs.SignedReading.{embed, signed_in}
 -- ---- `signed`
 
 -- up to (p − 1) ÷ 2
-pub small-read : (x : ℕ) → x ≤ 9223372034707292160 → to_z w64 x ≡ signed_in modulus x
+pub small_read : (x : ℕ) → x ≤ 9223372034707292160 → to_z w64 x ≡ signed_in modulus x
 unfolding signed_in
-small-read x h = to_z_pos w64 x (omega arith) ∙ rw (le-leb x 9223372034707292160 h)
+small_read x h = to_z_pos w64 x (omega arith) ∙ rw (le-leb x 9223372034707292160 h)
 
 -- p and above
-pub large-read : (x : ℕ) → modulus ≤ x → x < 18446744073709551616 → to_z w64 (x - 18446744069414584321) ≡ signed_in modulus x
+pub large_read : (x : ℕ) → modulus ≤ x → x < 18446744073709551616 → to_z w64 (x - 18446744069414584321) ≡ signed_in modulus x
 unfolding signed_in
-large-read x h fits = to_z_pos w64 (x - 18446744069414584321) (omega arith) ∙ rw (lt-leb x 9223372034707292160 (omega arith), le-ltb x 18446744069414584321 h)
+large_read x h fits = to_z_pos w64 (x - 18446744069414584321) (omega arith) ∙ rw (lt-leb x 9223372034707292160 (omega arith), le-ltb x 18446744069414584321 h)
 
 minus : (y : ℕ) → negsuc 0 -ℤ pos y ≡ negsuc y
 minus zero = refl
@@ -35,17 +35,17 @@ module _ (x : ℕ) (above : 9223372034707292160 < x) (below : x < modulus) where
   abbrev difference : ℤ
   difference = negsuc 0 -ℤ to_z w64 (18446744069414584320 - x)
 
-  difference-is : difference ≡ negsuc (18446744069414584320 - x)
-  difference-is = ap (λ (z : ℤ). negsuc 0 -ℤ z) (to_z_pos w64 (18446744069414584320 - x) (omega arith)) ∙ minus (18446744069414584320 - x)
+  difference_is : difference ≡ negsuc (18446744069414584320 - x)
+  difference_is = ap (λ (z : ℤ). negsuc 0 -ℤ z) (to_z_pos w64 (18446744069414584320 - x) (omega arith)) ∙ minus (18446744069414584320 - x)
 
-  pub middle-fits : SFits w64 difference
-  middle-fits = subst (SFits w64) (sym difference-is) (record { sfits = omega arith })
+  pub middle_fits : SFits w64 difference
+  middle_fits = subst (SFits w64) (sym difference_is) (record { sfits = omega arith })
 
-  pub middle-read : to_z w64 (of_z w64 difference) ≡ signed_in modulus x
+  pub middle_read : to_z w64 (of_z w64 difference) ≡ signed_in modulus x
   unfolding signed_in
-  middle-read =
-      to_z-of_z w64 difference middle-fits
-      ∙ difference-is
+  middle_read =
+      to_z-of_z w64 difference middle_fits
+      ∙ difference_is
       ∙ rw (lt-leb x 9223372034707292160 above, lt-ltb x 18446744069414584321 below) (ap negsuc (omega arith))
 
 -- ---- `from_signed`
@@ -55,14 +55,14 @@ abbrev pub widened : ℤ → ℤ
 widened w = to_z w64 (of_z w64 (to_z w16 (of_z w16 w)))
 
 module _ (w : ℤ) (fits : SFits w16 w) where
-  narrow-is : to_z w16 (of_z w16 w) ≡ w
-  narrow-is = to_z-of_z w16 w fits
+  narrow_is : to_z w16 (of_z w16 w) ≡ w
+  narrow_is = to_z-of_z w16 w fits
 
   pub wide_fits : SFits w64 (to_z w16 (of_z w16 w))
-  wide_fits = subst (SFits w64) (sym narrow-is) (record { sfits = omega (arith, fits.sfits) })
+  wide_fits = subst (SFits w64) (sym narrow_is) (record { sfits = omega (arith, fits.sfits) })
 
   wide_is : widened w ≡ w
-  wide_is = to_z-of_z w64 (to_z w16 (of_z w16 w)) wide_fits ∙ narrow-is
+  wide_is = to_z-of_z w64 (to_z w16 (of_z w16 w)) wide_fits ∙ narrow_is
 
 negative : (z : ℤ) → SFits w16 z → lt_z z (pos 0) ≡ true → (k : ℕ) × (z ≡ negsuc k) × (k < 32768)
 negative (pos a) f e = absurd (true≢false (sym e ∙ le-ltb a 0 (omega arith)))
@@ -84,24 +84,24 @@ module _ (w : ℤ) (fits : SFits w16 w) (less : lt_z (widened w) (pos 0) ≡ tru
   abbrev negated : ℤ
   negated = pos 0 -ℤ widened w
 
-  negated-is : negated ≡ pos (suc k.0)
-  negated-is = ap (λ (z : ℤ). pos 0 -ℤ z) (wide_is w fits ∙ k.1) ∙ ap pos (omega arith)
+  negated_is : negated ≡ pos (suc k.0)
+  negated_is = ap (λ (z : ℤ). pos 0 -ℤ z) (wide_is w fits ∙ k.1) ∙ ap pos (omega arith)
 
   pub negated_fits : SFits w64 negated
-  negated_fits = subst (SFits w64) (sym negated-is) (record { sfits = omega (arith, k.2) })
+  negated_fits = subst (SFits w64) (sym negated_is) (record { sfits = omega (arith, k.2) })
 
   read_is : to_z w64 (of_z w64 negated) ≡ pos (suc k.0)
-  read_is = to_z-of_z w64 negated negated_fits ∙ negated-is
+  read_is = to_z-of_z w64 negated negated_fits ∙ negated_is
 
   pub negated_word : T (non_neg (to_z w64 (of_z w64 negated))) × Fits w64 (nat_abs (to_z w64 (of_z w64 negated)))
   negated_word = subst (λ (z : ℤ). T (non_neg z) × Fits w64 (nat_abs z)) (sym read_is) (tt, record { fits = omega (arith, k.2) })
 
-  pub negated-most : nat_abs (to_z w64 (of_z w64 negated)) ≤ 32768
-  negated-most = subst (λ (z : ℤ). nat_abs z ≤ 32768) (sym read_is) (omega (arith, k.2))
+  pub negated_most : nat_abs (to_z w64 (of_z w64 negated)) ≤ 32768
+  negated_most = subst (λ (z : ℤ). nat_abs z ≤ 32768) (sym read_is) (omega (arith, k.2))
 
-  pub negated-embedded : (18446744069414584321 - nat_abs (to_z w64 (of_z w64 negated)) ≡ embed modulus w)
+  pub negated_embedded : (18446744069414584321 - nat_abs (to_z w64 (of_z w64 negated)) ≡ embed modulus w)
       × (18446744069414584321 - nat_abs (to_z w64 (of_z w64 negated)) < modulus)
-  negated-embedded = subst (λ (z : ℤ). (18446744069414584321 - nat_abs z ≡ embed modulus w) × (18446744069414584321 - nat_abs z < modulus)) (sym read_is) (same, omega (arith, k.2))
+  negated_embedded = subst (λ (z : ℤ). (18446744069414584321 - nat_abs z ≡ embed modulus w) × (18446744069414584321 - nat_abs z < modulus)) (sym read_is) (same, omega (arith, k.2))
     where
       same : 18446744069414584321 - suc k.0 ≡ embed modulus w
       same = sym (ap (embed modulus) k.1 ∙ embedded k.0 k.2)
@@ -117,8 +117,8 @@ module _ (w : ℤ) (fits : SFits w16 w) (least : lt_z (widened w) (pos 0) ≡ fa
   pub wide_word : T (non_neg (widened w)) × Fits w64 (nat_abs (widened w))
   wide_word = subst (λ (z : ℤ). T (non_neg z) × Fits w64 (nat_abs z)) (sym wide_read) (tt, record { fits = omega (arith, n.2) })
 
-  pub wide-embedded : (nat_abs (widened w) ≡ embed modulus w) × (nat_abs (widened w) < modulus)
+  pub wide_embedded : (nat_abs (widened w) ≡ embed modulus w) × (nat_abs (widened w) < modulus)
   unfolding embed
-  wide-embedded =
+  wide_embedded =
       let same : n.0 ≡ embed modulus w = sym (ap (embed modulus) n.1 ∙ mod-eq_of_lt (omega (arith, n.2))) in
       subst (λ (z : ℤ). (nat_abs z ≡ embed modulus w) × (nat_abs z < modulus)) (sym wide_read) (same, omega (arith, n.2))

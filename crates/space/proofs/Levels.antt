@@ -9,26 +9,26 @@ use Rattle.bits.specs.Packing.{packed_length}
 use Rattle.tree.specs.SearchRule.{heading_length}
 use Rattle.tree.specs.Space.{level_length, space_from, record_space}
 
-pub level-none : (k c : ℕ) → c < 1 → level_length k c ≡ 0
+pub level_none : (k c : ℕ) → c < 1 → level_length k c ≡ 0
 unfolding level_length
-level-none k zero h = refl
-level-none k (suc c) h = absurd (omega arith)
+level_none k zero h = refl
+level_none k (suc c) h = absurd (omega arith)
 
-pub level-some : (k c : ℕ) → 1 ≤ c → level_length k c ≡ 6 + c * (packed_length (k + 1) + 8)
+pub level_some : (k c : ℕ) → 1 ≤ c → level_length k c ≡ 6 + c * (packed_length (k + 1) + 8)
 unfolding level_length
-level-some k zero h = absurd (omega arith)
-level-some k (suc c) h = rw (add-one k)
+level_some k zero h = absurd (omega arith)
+level_some k (suc c) h = rw (add-one k)
 
 -- how many bytes a level has at most
-pub level-most : (p c : ℕ) → p ≤ 32 → c ≤ 131070 → c * (p + 8) ≤ 5242800
-level-most p c h l = mul-le-mul {m₂ = 40} l (omega arith)
+pub level_most : (p c : ℕ) → p ≤ 32 → c ≤ 131070 → c * (p + 8) ≤ 5242800
+level_most p c h l = mul-le-mul {m₂ = 40} l (omega arith)
 
 -- how many of the prefixes of k bits can be kept: no more than there are, and no more than w
 abbrev pub keepable : ℕ → ℕ → ℕ
 keepable w k = min (2 ^ k) w
 
-double-min : (a w : ℕ) → min (2 * a) (2 * w) ≡ 2 * min a w
-double-min a w =
+double_min : (a w : ℕ) → min (2 * a) (2 * w) ≡ 2 * min a w
+double_min a w =
     elim (dec_lt a w) [
       | yes h ↦ min-eq_left {n = 2 * a} (omega arith) ∙ ap (λ (x : ℕ). 2 * x) (sym (min-eq_left {n = a} (omega arith)))
       | no h ↦ min-eq_right {n = 2 * w} (omega arith) ∙ ap (λ (x : ℕ). 2 * x) (sym (min-eq_right {n = w} (omega arith)))
@@ -42,23 +42,23 @@ min_again a w =
     ]
 
 -- the next length's, from this one's
-pub keepable-next : (w k : ℕ) → min (2 * keepable w k) w ≡ keepable w (k + 1)
-keepable-next w k = min_again (2 ^ k) w ∙ ap (λ (x : ℕ). min x w) (sym (rw (add-one k) (pow-succ' 2 k)))
+pub keepable_next : (w k : ℕ) → min (2 * keepable w k) w ≡ keepable w (k + 1)
+keepable_next w k = min_again (2 ^ k) w ∙ ap (λ (x : ℕ). min x w) (sym (rw (add-one k) (pow-succ' 2 k)))
 
 -- no level
-pub levels-none : (w n k : ℕ) → n ≤ k → space_from w (n - k) k ≡ 0
+pub levels_none : (w n k : ℕ) → n ≤ k → space_from w (n - k) k ≡ 0
 unfolding space_from
-levels-none w n k h = let e : n - k ≡ 0 = omega arith in rw e
+levels_none w n k h = let e : n - k ≡ 0 = omega arith in rw e
 
 -- one level, and those below it
-pub levels-step : (w n k : ℕ) → k < n → space_from w (n - k) k ≡ level_length k (2 * keepable w k) + space_from w (n - (k + 1)) (k + 1)
+pub levels_step : (w n k : ℕ) → k < n → space_from w (n - k) k ≡ level_length k (2 * keepable w k) + space_from w (n - (k + 1)) (k + 1)
 unfolding space_from
-levels-step w n k h =
+levels_step w n k h =
     let e : n - k ≡ suc (n - (k + 1)) = omega arith in
-    rw (e, add-one k, pow-succ' 2 k, double-min (2 ^ k) w)
+    rw (e, add-one k, pow-succ' 2 k, double_min (2 ^ k) w)
 
 -- a record's space is that of its heading, of the first level and of those below
-pub record-parts : (n t C : ℕ) → 1 ≤ n → record_space n t C ≡ heading_length + (level_length 0 2 + space_from (C / t) (n - 1) 1)
+pub record_parts : (n t C : ℕ) → 1 ≤ n → record_space n t C ≡ heading_length + (level_length 0 2 + space_from (C / t) (n - 1) 1)
 unfolding record_space
-record-parts zero t C h = absurd (omega arith)
-record-parts (suc n) t C h = ap (λ (m : ℕ). heading_length + (level_length 0 2 + space_from (C / t) m 1)) {x = n} {y = suc n - 1} (omega arith)
+record_parts zero t C h = absurd (omega arith)
+record_parts (suc n) t C h = ap (λ (m : ℕ). heading_length + (level_length 0 2 + space_from (C / t) m 1)) {x = n} {y = suc n - 1} (omega arith)

@@ -11,7 +11,7 @@ use lib.Dec.{leb, ltb}
 use Rattle.bits.specs.Strings.{Bits, ◌▹◌, is_prefix, count}
 use Rattle.query.specs.Query.{OfLength}
 use Rattle.tree.specs.Cut.{prefixes, first, cut, cuts, is_same, times}
-use Rattle.places.proofs.Lists.{all_map, number-cong, number-and, number-map}
+use Rattle.places.proofs.Lists.{all_map, number_cong, number_and, number_map}
 use Rattle.tree.proofs.Kept.{Open}
 
 -- ---- prefixes and cuts, one bit after the other
@@ -21,49 +21,49 @@ abbrev pub trim : (Bits → Bool) → Bits → Bits
 trim K [] = []
 trim K (b ∷ s) = b ∷ cond (K (b ∷ [])) (trim (λ q. K (b ∷ q)) s) []
 
-first-map : (f : Bits → Bool) (g : Bits → Bits) (d : Bits) (xs : List Bits) → first f (g d) (map g xs) ≡ g (first (λ x. f (g x)) d xs)
-first-map f g d [] = refl
-first-map f g d (x ∷ xs) = go (f (g x)) (first-map f g d xs)
+first_map : (f : Bits → Bool) (g : Bits → Bits) (d : Bits) (xs : List Bits) → first f (g d) (map g xs) ≡ g (first (λ x. f (g x)) d xs)
+first_map f g d [] = refl
+first_map f g d (x ∷ xs) = go (f (g x)) (first_map f g d xs)
   where
     go : (c : Bool) → first f (g d) (map g xs) ≡ g (first (λ y. f (g y)) d xs) → cond c (g x) (first f (g d) (map g xs)) ≡ g (cond c x (first (λ y. f (g y)) d xs))
     go true e = refl
     go false e = e
 
-first-trim : (K : Bits → Bool) (s : Bits) → first (λ q. not (K q)) s (prefixes s) ≡ trim K s
-first-trim K [] = refl
-first-trim K (b ∷ s) = go (K (b ∷ [])) (first-map (λ q. not (K q)) (λ q. b ∷ q) s (prefixes s) ∙ ap (λ q. b ∷ q) (first-trim (λ q. K (b ∷ q)) s))
+first_trim : (K : Bits → Bool) (s : Bits) → first (λ q. not (K q)) s (prefixes s) ≡ trim K s
+first_trim K [] = refl
+first_trim K (b ∷ s) = go (K (b ∷ [])) (first_map (λ q. not (K q)) (λ q. b ∷ q) s (prefixes s) ∙ ap (λ q. b ∷ q) (first_trim (λ q. K (b ∷ q)) s))
   where
     go : (c : Bool) → first (λ q. not (K q)) (b ∷ s) (map (λ q. b ∷ q) (prefixes s)) ≡ b ∷ trim (λ q. K (b ∷ q)) s
         → cond (not c) (b ∷ []) (first (λ q. not (K q)) (b ∷ s) (map (λ q. b ∷ q) (prefixes s))) ≡ b ∷ cond c (trim (λ q. K (b ∷ q)) s) []
     go true e = e
     go false e = refl
 
-ltb-leb : (x t : ℕ) → ltb x t ≡ not (leb t x)
-ltb-leb x t = go (ltb x t) refl
+ltb_leb : (x t : ℕ) → ltb x t ≡ not (leb t x)
+ltb_leb x t = go (ltb x t) refl
   where
     go : (c : Bool) → ltb x t ≡ c → c ≡ not (leb t x)
     go true e = rw (lt-leb t x (ltb-true x t e))
     go false e = rw (le-leb t x (ltb-false x t e))
 
-pub cuts-trim : (t : ℕ) (xs : List Bits) → cuts t xs ≡ map (trim (λ q. leb t (count xs q))) xs
+pub cuts_trim : (t : ℕ) (xs : List Bits) → cuts t xs ≡ map (trim (λ q. leb t (count xs q))) xs
 unfolding cut
-cuts-trim t xs = ap (λ f. map f xs) (fun_ext λ s. ap (λ f. first f s (prefixes s)) (fun_ext λ q. ltb-leb (count xs q) t) ∙ first-trim (λ q. leb t (count xs q)) s)
+cuts_trim t xs = ap (λ f. map f xs) (fun_ext λ s. ap (λ f. first f s (prefixes s)) (fun_ext λ q. ltb_leb (count xs q) t) ∙ first_trim (λ q. leb t (count xs q)) s)
 
 -- ---- what the cut strings keep of the strings
 
 -- A string and its cut have the same prefixes one bit past the kept ones.
-prefix-trim : (K : Bits → Bool) (p : Bits) (b : Bool) (s : Bits) → Open K p → is_prefix (p ▹ b) (trim K s) ≡ is_prefix (p ▹ b) s
-prefix-trim K [] b [] o = refl
-prefix-trim K (d ∷ p) b [] o = refl
-prefix-trim K [] b (c ∷ s) o = refl
-prefix-trim K (false ∷ p) b (false ∷ s) o = rw o.0 (prefix-trim (λ q. K (false ∷ q)) p b s o.1)
-prefix-trim K (false ∷ p) b (true ∷ s) o = refl
-prefix-trim K (true ∷ p) b (false ∷ s) o = refl
-prefix-trim K (true ∷ p) b (true ∷ s) o = rw o.0 (prefix-trim (λ q. K (true ∷ q)) p b s o.1)
+prefix_trim : (K : Bits → Bool) (p : Bits) (b : Bool) (s : Bits) → Open K p → is_prefix (p ▹ b) (trim K s) ≡ is_prefix (p ▹ b) s
+prefix_trim K [] b [] o = refl
+prefix_trim K (d ∷ p) b [] o = refl
+prefix_trim K [] b (c ∷ s) o = refl
+prefix_trim K (false ∷ p) b (false ∷ s) o = rw o.0 (prefix_trim (λ q. K (false ∷ q)) p b s o.1)
+prefix_trim K (false ∷ p) b (true ∷ s) o = refl
+prefix_trim K (true ∷ p) b (false ∷ s) o = refl
+prefix_trim K (true ∷ p) b (true ∷ s) o = rw o.0 (prefix_trim (λ q. K (true ∷ q)) p b s o.1)
 
-pub count-trim : (K : Bits → Bool) (p : Bits) (b : Bool) (xs : List Bits) → Open K p → count (map (trim K) xs) (p ▹ b) ≡ count xs (p ▹ b)
-count-trim K p b [] o = refl
-count-trim K p b (x ∷ xs) o = rw (prefix-trim K p b x o, count-trim K p b xs o)
+pub count_trim : (K : Bits → Bool) (p : Bits) (b : Bool) (xs : List Bits) → Open K p → count (map (trim K) xs) (p ▹ b) ≡ count xs (p ▹ b)
+count_trim K p b [] o = refl
+count_trim K p b (x ∷ xs) o = rw (prefix_trim K p b x o, count_trim K p b xs o)
 
 -- ---- how often a string stands among the cut strings
 
@@ -79,22 +79,22 @@ same_cond true v q u s e = e
 same_cond false v [] u s e = refl
 same_cond false v (b ∷ q) u s e = refl
 
-same-trim : (n : ℕ) (K : Bits → Bool) (q s : Bits) → length s ≡ n → is_same q (trim K s) ≡ (is_cut n K q && is_prefix q s)
-same-trim zero K [] [] l = refl
-same-trim zero K (b ∷ q) [] l = refl
-same-trim zero K q (c ∷ s) l = absurd (suc-ne-zero _ l)
-same-trim (suc n) K q [] l = absurd (suc-ne-zero _ (sym l))
-same-trim (suc n) K [] (c ∷ s) l = refl
-same-trim (suc n) K (false ∷ q) (true ∷ s) l = simp and-false
-same-trim (suc n) K (true ∷ q) (false ∷ s) l = simp and-false
-same-trim (suc n) K (false ∷ q) (false ∷ s) l = same_cond (K (false ∷ [])) _ q _ s (same-trim n (λ r. K (false ∷ r)) q s (suc_inj l))
-same-trim (suc n) K (true ∷ q) (true ∷ s) l = same_cond (K (true ∷ [])) _ q _ s (same-trim n (λ r. K (true ∷ r)) q s (suc_inj l))
+same_trim : (n : ℕ) (K : Bits → Bool) (q s : Bits) → length s ≡ n → is_same q (trim K s) ≡ (is_cut n K q && is_prefix q s)
+same_trim zero K [] [] l = refl
+same_trim zero K (b ∷ q) [] l = refl
+same_trim zero K q (c ∷ s) l = absurd (suc-ne-zero _ l)
+same_trim (suc n) K q [] l = absurd (suc-ne-zero _ (sym l))
+same_trim (suc n) K [] (c ∷ s) l = refl
+same_trim (suc n) K (false ∷ q) (true ∷ s) l = simp and-false
+same_trim (suc n) K (true ∷ q) (false ∷ s) l = simp and-false
+same_trim (suc n) K (false ∷ q) (false ∷ s) l = same_cond (K (false ∷ [])) _ q _ s (same_trim n (λ r. K (false ∷ r)) q s (suc_inj l))
+same_trim (suc n) K (true ∷ q) (true ∷ s) l = same_cond (K (true ∷ [])) _ q _ s (same_trim n (λ r. K (true ∷ r)) q s (suc_inj l))
 
-pub times-trim : (n : ℕ) (K : Bits → Bool) (q : Bits) (xs : List Bits) → OfLength n xs → times q (map (trim K) xs) ≡ cond (is_cut n K q) (count xs q) 0
-times-trim n K q xs l =
-    number-map (is_same q) (trim K) xs
-    ∙ number-cong (λ x. is_same q (trim K x)) (λ x. is_cut n K q && is_prefix q x) xs (all_map (λ x. length x ≡ n) _ (same-trim n K q) xs l)
-    ∙ number-and (is_cut n K q) (is_prefix q) xs
+pub times_trim : (n : ℕ) (K : Bits → Bool) (q : Bits) (xs : List Bits) → OfLength n xs → times q (map (trim K) xs) ≡ cond (is_cut n K q) (count xs q) 0
+times_trim n K q xs l =
+    number_map (is_same q) (trim K) xs
+    ∙ number_cong (λ x. is_same q (trim K x)) (λ x. is_cut n K q && is_prefix q x) xs (all_map (λ x. length x ≡ n) _ (same_trim n K q) xs l)
+    ∙ number_and (is_cut n K q) (is_prefix q) xs
 
 -- ---- two totals that agree one bit past the kept prefixes are cut in the same places, with the same totals there
 
@@ -109,11 +109,11 @@ module _ (enough : ℕ → Bool) where
   leaf T U [] e = e
   leaf T U (b ∷ q) e = refl
 
-  pub agree-cut : (n : ℕ) (T U : Bits → ℕ) (q : Bits) → (n ≡ zero → T [] ≡ U []) → Agree enough n T U → CutTotal n T q ≡ CutTotal n U q
-  agree-cut zero T U [] z a = z refl
-  agree-cut zero T U (b ∷ q) z a = refl
-  agree-cut (suc n) T U [] z a = refl
-  agree-cut (suc n) T U (b ∷ q) z a = go (enough (T (b ∷ []))) refl (agree-cut n (λ r. T (b ∷ r)) (λ r. U (b ∷ r)) q (λ _. e₁))
+  pub agree_cut : (n : ℕ) (T U : Bits → ℕ) (q : Bits) → (n ≡ zero → T [] ≡ U []) → Agree enough n T U → CutTotal n T q ≡ CutTotal n U q
+  agree_cut zero T U [] z a = z refl
+  agree_cut zero T U (b ∷ q) z a = refl
+  agree_cut (suc n) T U [] z a = refl
+  agree_cut (suc n) T U (b ∷ q) z a = go (enough (T (b ∷ []))) refl (agree_cut n (λ r. T (b ∷ r)) (λ r. U (b ∷ r)) q (λ _. e₁))
     where
       e₁ : T (b ∷ []) ≡ U (b ∷ [])
       e₁ = a [] b (omega arith) tt

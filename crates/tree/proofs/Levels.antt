@@ -34,24 +34,24 @@ Listed strings list_area list_after end number record_length list_length =
 
 -- The bytes fit the record area from a place on, the strings, packed, fit the list area, and no query passes the limit.
 pub record Fits (bytes strings : List ℕ) (within : Bool) (place : ℕ) (record_area list_area : List ℕ) : Type 0 where
-  pub record-room : place + length bytes ≤ length record_area
-  pub list-room : length strings ≤ length list_area
+  pub record_room : place + length bytes ≤ length record_area
+  pub list_room_lem : length strings ≤ length list_area
   pub queries : within ≡ true
 
 -- Both are written: the lengths and the two areas.
 pub record Written (bytes strings : List ℕ) (place : ℕ) (record_area list_area record_after list_after : List ℕ) (record_length list_length : ℕ) : Type 0 where
-  pub record-end : record_length ≡ place + length bytes
-  pub list-end : list_length ≡ length strings
-  pub record-area : record_after ≡ put_at record_area place bytes
-  pub list-area : list_after ≡ put_at list_area 0 strings
+  pub record_end_lem : record_length ≡ place + length bytes
+  pub list_end_lem : list_length ≡ length strings
+  pub record_area_lem : record_after ≡ put_at record_area place bytes
+  pub list_area_lem : list_after ≡ put_at list_area 0 strings
 
 -- They do not fit: the lengths are 0 and the list area is as it was.
 pub record Refused (bytes strings : List ℕ) (within : Bool) (place : ℕ) (record_area list_area record_after list_after : List ℕ) (record_length list_length : ℕ) : Type 0 where
   pub no_room_lem : Fits bytes strings within place record_area list_area → ⊥
   pub no_record : record_length ≡ 0
-  pub no-list : list_length ≡ 0
-  pub record-area : length record_after ≡ length record_area
-  pub list-area : list_after ≡ list_area
+  pub no_list : list_length ≡ 0
+  pub record_area_lem : length record_after ≡ length record_area
+  pub list_area_lem : list_after ≡ list_area
 
 -- One of the two, with its number.
 abbrev pub Answered : List ℕ → List ℕ → Bool → ℕ → List ℕ → List ℕ → List ℕ → List ℕ → ℕ → ℕ → ℕ → Type 0

@@ -7,7 +7,7 @@ use Rattle.kept.specs.Kept.{reaches}
 use Rattle.tree.specs.SearchRule.{search_record, search_list, search_fits}
 
 -- ---- honest searches: each of the strings xs is held by one installation, and the total of a prefix is the number of strings that have it;
--- that honest reports have these totals is shown in `honest` (`honest-total`)
+-- that honest reports have these totals is shown in `honest` (`honest_total`)
 
 -- heavy: at least t installations hold s
 abbrev pub Heavy : ℕ → List Bits → Bits → Type 0

@@ -17,32 +17,32 @@ use Rattle.turns.specs.declared.Place.{Place}
 -- ---- bounds
 
 module _ (f : ℕ → Bool) where
-  up-most : (m a : ℕ) → up_from f a m ≤ a + m
+  up_most : (m a : ℕ) → up_from f a m ≤ a + m
   unfolding up_from
-  up-most zero a = omega arith
-  up-most (suc m) a = go (f a) (up-most m (suc a))
+  up_most zero a = omega arith
+  up_most (suc m) a = go (f a) (up_most m (suc a))
     where
       go : (b : Bool) → up_from f (suc a) m ≤ suc a + m → cond b a (up_from f (suc a) m) ≤ a + suc m
       go true h = omega arith
       go false h = omega arith
 
-  down-most : (m a : ℕ) → a ≤ m → down_from f m a ≤ m
+  down_most : (m a : ℕ) → a ≤ m → down_from f m a ≤ m
   unfolding down_from
-  down-most m zero h = omega arith
-  down-most m (suc a) h = go (f a) (down-most m a (omega arith))
+  down_most m zero h = omega arith
+  down_most m (suc a) h = go (f a) (down_most m a (omega arith))
     where
       go : (b : Bool) → down_from f m a ≤ m → cond b a (down_from f m a) ≤ m
       go true l = omega arith
       go false l = l
 
   -- what is looked up is a place or the one after them all
-  pub looked-most : (up : Bool) (m hint r : ℕ) → r ≡ looked_up up f m hint → r ≤ m
+  pub looked_most : (up : Bool) (m hint r : ℕ) → r ≡ looked_up up f m hint → r ≤ m
   unfolding looked_up
-  looked-most up m hint r e = rw e (go (cond up (up_from f hint (m - hint)) (down_from f m (min (suc hint) m))) (far up))
+  looked_most up m hint r e = rw e (go (cond up (up_from f hint (m - hint)) (down_from f m (min (suc hint) m))) (far up))
     where
       far : (b : Bool) → cond b (up_from f 0 m) (down_from f m m) ≤ m
-      far true = omega (arith, up-most m 0)
-      far false = down-most m m (omega arith)
+      far true = omega (arith, up_most m 0)
+      far false = down_most m m (omega arith)
 
       go : (near : ℕ) → cond up (up_from f 0 m) (down_from f m m) ≤ m → cond (ltb near m) near (cond up (up_from f 0 m) (down_from f m m)) ≤ m
       go near h =
@@ -56,8 +56,8 @@ pub count_small : (r a : ℕ) → r < 65536 → a < 4294967296 → r * a < 28147
 count_small r a h k = let l : r ≤ 65535 = omega arith in omega (arith, mul-le-mul_right a l)
 
 -- there is a prefix where there is a new node
-pub count-some : (r a : ℕ) → (r * a ≡ 0 → ⊥) → 0 < a
-count-some r a h = go a h
+pub count_some : (r a : ℕ) → (r * a ≡ 0 → ⊥) → 0 < a
+count_some r a h = go a h
   where
     go : (a : ℕ) → (r * a ≡ 0 → ⊥) → 0 < a
     go zero h = absurd (h (omega arith))
@@ -72,9 +72,9 @@ target_below N left h k r e =
     ]
 
 -- its parent is a node of the last query, or the one after those of its report
-pub from-small : (r a m target parent : ℕ) → 0 < a → target < r * a → r < 65536 → m < 4294967296 → parent ≤ m
+pub from_small : (r a m target parent : ℕ) → 0 < a → target < r * a → r < 65536 → m < 4294967296 → parent ≤ m
     → target / a * m + parent < 562949953421312
-from-small r a m target parent some h k l e =
+from_small r a m target parent some h k l e =
     let b : target / a < r = (div-lt_iff_lt-mul {k = a} {x = target} {y = r} some).1 h in
     let s : target / a ≤ 65535 = omega arith in
     omega (arith, mul-le-mul_right m s)
@@ -87,9 +87,9 @@ module _ (t : Task) (last query : List ℕ) (left hint : ℕ) where
   placed_end e = rw (eq-eqb left 0 e)
 
   module _ (some : left ≡ 0 → ⊥) where
-    pub placed-none : t.reports * t.after ≡ 0 → nowhere left ≡ place_for t last query left hint
+    pub placed_none : t.reports * t.after ≡ 0 → nowhere left ≡ place_for t last query left hint
     unfolding place_for
-    placed-none e = rw (ne_eqb left 0 some, eq-eqb (t.reports * t.after) 0 e)
+    placed_none e = rw (ne_eqb left 0 some, eq-eqb (t.reports * t.after) 0 e)
 
     pub placed : (t.reports * t.after ≡ 0 → ⊥)
         → (target : ℕ) → target ≡ cond (ltb (t.reports * t.after) left) (t.reports * t.after + t.reports * t.after - left) (left - 1)

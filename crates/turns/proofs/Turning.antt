@@ -33,11 +33,11 @@ module _ (t : Task) (shares query : List ℕ) (at : Place) (m : Node) where
   sums_by b e area = ap (λ (x : Bool). cond x (added area) area) e
 
   -- a turn that is not due
-  pub still-node : at.due ≡ false → m ≡ turned_node t shares query at m
-  still-node e = sym (node_by false e)
+  pub still_node : at.due ≡ false → m ≡ turned_node t shares query at m
+  still_node e = sym (node_by false e)
 
-  pub still-sums : at.due ≡ false → (area : List ℕ) → area ≡ turned_sums t shares query at m area
-  still-sums e area = sym (sums_by false e area)
+  pub still_sums : at.due ≡ false → (area : List ℕ) → area ≡ turned_sums t shares query at m area
+  still_sums e area = sym (sums_by false e area)
 
   -- a turn that is due, with its public share, its prefix and its bit
   module _ (due : at.due ≡ true) (share : List ℕ) (s : share ≡ public_share_at t.levels shares at.report)
@@ -48,15 +48,15 @@ module _ (t : Task) (shares query : List ℕ) (at : Place) (m : Node) where
     bit : x ≡ turn_bit t query at
     bit = e ∙ ap (λ (l : List ℕ). get_or (bits_of l) t.level false) d
 
-    pub turned-node : (r : Node) → node_of r ≡ descend (scheme t.expander) (read_correction t.levels share t.level) x (node_of m)
+    pub turned_node_lem : (r : Node) → node_of r ≡ descend (scheme t.expander) (read_correction t.levels share t.level) x (node_of m)
         → r ≡ turned_node t shares query at m
-    turned-node r h =
+    turned_node_lem r h =
         ap struct_of (h ∙ ap₂ (λ (w : Correction ℕ) (y : Bool). descend (scheme t.expander) w y (node_of m)) word bit) ∙ sym (node_by true due)
 
-    pub turned-sums : (v : ℕ) → v ≡ share_below (scheme t.expander) t.server (read_correction t.levels share t.level) x (node_of m)
+    pub turned_sums_lem : (v : ℕ) → v ≡ share_below (scheme t.expander) t.server (read_correction t.levels share t.level) x (node_of m)
         → (area after : List ℕ) → after ≡ added_at at.prefix v area
         → after ≡ turned_sums t shares query at m area
-    turned-sums v h area after k =
+    turned_sums_lem v h area after k =
         k
         ∙ ap (λ (u : ℕ). added_at at.prefix u area)
         (h ∙ ap₂ (λ (w : Correction ℕ) (y : Bool). share_below (scheme t.expander) t.server w y (node_of m)) word bit)

@@ -16,31 +16,31 @@ pub every_more : (k : ℕ) (f : ℕ → Bool) → every k f ≡ true → f k ≡
 unfolding every
 every_more k f h e = rw add-one (ap₂ ◌&&◌ h e)
 
-pub every-none : (f : ℕ → Bool) → every 0 f ≡ true
+pub every_none : (f : ℕ → Bool) → every 0 f ≡ true
 unfolding every
-every-none f = refl
+every_none f = refl
 
 -- the last control byte is full
-pub spare-full : (n : ℕ) (bytes : List ℕ) → n % 4 ≡ 0 → spare_bits_zero n bytes ≡ true
+pub spare_full : (n : ℕ) (bytes : List ℕ) → n % 4 ≡ 0 → spare_bits_zero n bytes ≡ true
 unfolding spare_bits_zero
-spare-full n bytes h = rw (eq-eqb (n % 4) 0 h)
+spare_full n bytes h = rw (eq-eqb (n % 4) 0 h)
 
-pub spare-last : (n : ℕ) (bytes : List ℕ) → (n % 4 ≡ 0 → ⊥) → spare_bits_zero n bytes ≡ eqb (get_or bytes (n / 4) 0 / 2 ^ (2 * (n % 4))) 0
+pub spare_last : (n : ℕ) (bytes : List ℕ) → (n % 4 ≡ 0 → ⊥) → spare_bits_zero n bytes ≡ eqb (get_or bytes (n / 4) 0 / 2 ^ (2 * (n % 4))) 0
 unfolding spare_bits_zero
-spare-last n bytes h = rw (ne_eqb (n % 4) 0 h)
+spare_last n bytes h = rw (ne_eqb (n % 4) 0 h)
 
 -- the payload corrections of the first i levels, and of one level more
 abbrev pub below : ℕ → List ℕ → ℕ → Bool
 below n l i = every i (λ k. ltb (read_correction n l k).payload p)
 
-pub below-none : (n : ℕ) (l : List ℕ) → true ≡ below n l 0
+pub below_none_lem : (n : ℕ) (l : List ℕ) → true ≡ below n l 0
 unfolding every
-below-none n l = refl
+below_none_lem n l = refl
 
 pub below_more : (n i : ℕ) (l : List ℕ) (w : Correction ℕ) (t : Bool) → w ≡ read_correction n l i → t ≡ (below n l i && ltb w.payload p) → t ≡ below n l (i + 1)
 unfolding every
 below_more n i l w t e h = rw add-one (h ∙ ap (λ (v : Correction ℕ). below n l i && ltb v.payload p) e)
 
-pub below-all : (n : ℕ) (l : List ℕ) → below n l n ≡ payloads_below p n l
+pub below_all_lem : (n : ℕ) (l : List ℕ) → below n l n ≡ payloads_below p n l
 unfolding payloads_below
-below-all n l = refl
+below_all_lem n l = refl

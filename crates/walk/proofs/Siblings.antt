@@ -8,15 +8,15 @@ use Rattle.point.proofs.Local.{Below}
 
 -- ---- the test that two bits differ
 
-bits-same : (a b : Bool) → not (beq a b) ≡ false → a ≡ b
-bits-same true true h = refl
-bits-same false false h = refl
-bits-same true false h = h
-bits-same false true h = sym h
+bits_same : (a b : Bool) → not (beq a b) ≡ false → a ≡ b
+bits_same true true h = refl
+bits_same false false h = refl
+bits_same true false h = h
+bits_same false true h = sym h
 
-bits-differ : (a : Bool) → not (beq a a) ≡ true → ⊥
-bits-differ true h = let z : ◌≡◌ {A = ℕ} 0 1 = cc in omega arith
-bits-differ false h = let z : ◌≡◌ {A = ℕ} 0 1 = cc in omega arith
+bits_differ : (a : Bool) → not (beq a a) ≡ true → ⊥
+bits_differ true h = let z : ◌≡◌ {A = ℕ} 0 1 = cc in omega arith
+bits_differ false h = let z : ◌≡◌ {A = ℕ} 0 1 = cc in omega arith
 
 -- ---- the bits from a place on
 
@@ -28,8 +28,8 @@ module _ (q q' : ℕ → Bool) (k : ℕ) where
   pub same_none : SameFrom k
   same_none i l h = absurd (omega arith)
 
-  pub same-all : (from : ℕ) → from ≤ 0 → SameFrom from → Below k q q'
-  same-all from z s i l = s i (omega arith) l
+  pub same_all : (from : ℕ) → from ≤ 0 → SameFrom from → Below k q q'
+  same_all from z s i l = s i (omega arith) l
 
   -- the bits a and b at the place before
   module _ (from : ℕ) (h : 0 < from) {a b : Bool} (f : a ≡ q (from - 1)) (g : b ≡ q' (from - 1)) where
@@ -37,9 +37,9 @@ module _ (q q' : ℕ → Bool) (k : ℕ) where
     same_more t s i l m = elim (dec_lt i from) [ yes r ↦ at_place i (omega arith) | no r ↦ s i (omega arith) m ]
       where
         at_place : (j : ℕ) → j ≡ from - 1 → q j ≡ q' j
-        at_place j e = rw e (sym f ∙ bits-same a b t ∙ g)
+        at_place j e = rw e (sym f ∙ bits_same a b t ∙ g)
 
     pub same_not : not (beq a b) ≡ true → from ≤ k → Below k q q' → ⊥
     same_not t l s =
         let e : a ≡ b = f ∙ s (from - 1) (omega arith) ∙ sym g in
-        bits-differ b (rw e at t)
+        bits_differ b (rw e at t)

@@ -9,12 +9,12 @@ use mir.Val.{SFits}
 use Rattle.weights.specs.Weights.{IsWeight}
 
 -- What an argument of type `i16` can be is a weight, and nothing else is.
-pub weight-word : (w : ℤ) → IsWeight w ↔ SFits w16 w
-weight-word (pos k) = (
+pub weight_word : (w : ℤ) → IsWeight w ↔ SFits w16 w
+weight_word (pos k) = (
   λ h. record { sfits = omega (arith, leb→le k 32767 h.most.le) },
   λ f. record { least = le_z_yes tt; most = le_z_yes (le→leb k 32767 (omega (arith, f.sfits))) },
 )
-weight-word (negsuc k) = (
+weight_word (negsuc k) = (
   λ h. record { sfits = omega (arith, leb→le k 32767 h.least.le) },
   λ f. record { least = le_z_yes (le→leb k 32767 (omega (arith, f.sfits))); most = le_z_yes tt },
 )

@@ -2,7 +2,7 @@
 use mathlib.Core.Path.{◌≡◌, refl, ap₂, ◌∙◌}
 use native.Mathlib.Omega.{arith}
 use Rattle.aes.specs.Fips197.{round_key}
-use Rattle.aes.proofs.Rounds.{next-key}
+use Rattle.aes.proofs.Rounds.{next_key}
 use borrow.Author.Rules.{rules}
 use Rattle.aes.proofs.last_round_key_with.Goals as goal
 
@@ -11,7 +11,7 @@ unfolding round_key
 loop-n-init c = (refl, search rules)
 
 pub loop-n-preserved : goal.loop-n-preserved
-loop-n-preserved c = (next-key _ _ c.loop-n.invariant.0 c.next_round_key-k.ensures, search rules)
+loop-n-preserved c = (next_key _ _ c.loop-n.invariant.0 c.next_round_key-k.ensures, search rules)
 
 pub returns : goal.returns
 returns c =

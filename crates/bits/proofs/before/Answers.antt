@@ -3,7 +3,7 @@ use native.Mathlib.Numerals.{add-one}
 use native.Mathlib.Omega.{arith}
 use mathlib.Core.Path.{refl, sym, ◌∙◌}
 use mathlib.Core.Logic.{inl, inr}
-use Rattle.bits.proofs.Order.{before-end, before-less, before_more, before_same}
+use Rattle.bits.proofs.Order.{before_end, before_less, before_more, before_same}
 use Rattle.bits.proofs.before.Goals as goal
 
 pub loop-i-init : goal.loop-i-init
@@ -13,13 +13,13 @@ pub returns-then-b-i : goal.returns-then-b-i
 returns-then-b-i c =
     let a = c.args in
     let l = c.loop-i in
-    sym (l.invariant ∙ before-end a.a.now a.b.now l.i (inr (omega arith)))
+    sym (l.invariant ∙ before_end a.a.now a.b.now l.i (inr (omega arith)))
 
 pub returns-then-x-y : goal.returns-then-x-y
 returns-then-x-y c =
     let a = c.args in
     let l = c.loop-i in
-    sym (l.invariant ∙ before-less a.a.now a.b.now l.i (omega arith) (omega arith) c.if-x-y.true)
+    sym (l.invariant ∙ before_less a.a.now a.b.now l.i (omega arith) (omega arith) c.if-x-y.true)
 
 pub returns-then-y-x : goal.returns-then-y-x
 returns-then-y-x c =
@@ -37,4 +37,4 @@ pub returns : goal.returns
 returns c =
     let a = c.args in
     let l = c.loop-i in
-    sym (l.invariant ∙ before-end a.a.now a.b.now l.i (inl (omega arith)))
+    sym (l.invariant ∙ before_end a.a.now a.b.now l.i (inl (omega arith)))

@@ -3,11 +3,11 @@ use Rattle.std.proofs.Common.{rules}
 use Rattle.std.proofs.lemmas.Result.{on_ok_weaker}
 use Rattle.streams.proofs.Whole.{whole}
 use Rattle.exam_answering.specs.Exam.{output}
-use Rattle.exam_answering.proofs.Outputs.{cut-output}
+use Rattle.exam_answering.proofs.Outputs.{cut_output}
 use Rattle.exam.proofs.answer.Goals as goal
 
 pub returns-clause-ok : goal.returns-clause-ok
 returns-clause-ok g c =
     on_ok_weaker _
-    (whole output 4096 cut-output _ _ _ _ _ _ (search rules) (c.read_text-input.ensures.cut c.if-input.false) c.reply-end.ensures.1)
+    (whole output 4096 cut_output _ _ _ _ _ _ (search rules) (c.read_text-input.ensures.cut c.if-input.false) c.reply-end.ensures.1)
     c.put.ensures.ok

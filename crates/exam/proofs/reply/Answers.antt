@@ -5,14 +5,14 @@ use Rattle.places.specs.Places.{overlay}
 use Rattle.calls.specs.Outcome.{Outcome, Exit, exit}
 use Rattle.exam_answering.specs.Exam.{output}
 use Rattle.exam_lines.proofs.Inside.{inside}
-use Rattle.exam_answering.proofs.Outputs.{respond-enough}
+use Rattle.exam_answering.proofs.Outputs.{respond_enough}
 use Rattle.exam.proofs.reply.Goals as goal
 
 pub returns : goal.returns
 unfolding overlay
 returns c =
     let a = c.args in
-    let is = c.respond-reply.ensures ∙ ap (λ (o : Outcome). exit o a.out.now) (respond-enough a.text.now _ c.requires) in
+    let is = c.respond-reply.ensures ∙ ap (λ (o : Outcome). exit o a.out.now) (respond_enough a.text.now _ c.requires) in
     let size = ap (λ (x : Exit). x.length) is in
     let area = ap (λ (x : Exit). x.area) is in
     let fits = inside _ (output a.text.now) a.out.now _ size area in

@@ -11,9 +11,9 @@ use Rattle.calls.proofs.Decisions.{bounds}
 use Rattle.expander.specs.Expander.{is_expander}
 use Rattle.exam_text.specs.Sheet.{expander_number, Within}
 use Rattle.exam_text.specs.Reader.{is_sheet, sheet_of, SheetSays}
-use Rattle.exam_text.proofs.ReaderExact.{sheet-within}
-use Rattle.exam_answering.proofs.ExamCauses.{no-sheet, no_bits, bad-threshold, no-expander, last-cause, refused-reply}
-use Rattle.exam_answering.proofs.SheetSearch.{search-answer}
+use Rattle.exam_text.proofs.ReaderExact.{sheet_within}
+use Rattle.exam_answering.proofs.ExamCauses.{no_sheet_lem, no_bits, bad_threshold, no_expander, last_cause, refused_reply}
+use Rattle.exam_answering.proofs.SheetSearch.{search_answer}
 use Rattle.exam_answering.proofs.answer.Goals as goal
 use Rattle.exam_answering.proofs.answer.Goals.{Else-no_bits, Else-not-is_sheet, Else-outside}
 
@@ -34,21 +34,21 @@ says : (e : Else-not-is_sheet) → let r = e.read_sheet-sheet.result in SheetSay
 says e = e.read_sheet-sheet.ensures.says (told e)
 
 within : (e : Else-not-is_sheet) → Within (sheet_of (text e))
-within e = (sheet-within (text e) (read e)).0
+within e = (sheet_within (text e) (read e)).0
 
 -- n is from 1 to 32
 some_bits : (e : Else-no_bits) → 1 ≤ e.read_sheet-sheet.result.n
 some_bits e = ltb-false e.read_sheet-sheet.result.n 1 e.if-no_bits.false-raw
 
 from : (e : Else-not-is_sheet) → 1 ≤ e.read_sheet-sheet.result.n → 1 ≤ (sheet_of (text e)).n
-from e some = omega (arith, some, (says e).n-read)
+from e some = omega (arith, some, (says e).n_read)
 
 to : (e : Else-not-is_sheet) → (sheet_of (text e)).n ≤ 32
-to e = (within e).n-most
+to e = (within e).n_most
 
 -- what the test of the threshold answers
 threshold : (e : Else-not-is_sheet) → e.threshold_outside-outside.result ≡ outside most_threshold (sheet_of (text e)).t
-threshold e = e.threshold_outside-outside.ensures ∙ ap (outside most_threshold) (says e).t-read
+threshold e = e.threshold_outside-outside.ensures ∙ ap (outside most_threshold) (says e).t_read
 
 -- t is from 1 to 65,535
 inside : (e : Else-not-is_sheet) → e.threshold_outside-outside.result ≡ false → outside most_threshold (sheet_of (text e)).t ≡ false
@@ -59,37 +59,37 @@ bounded e = bounds most_threshold e.read_sheet-sheet.result.t (sym e.threshold_o
 
 -- what the test of the expander answers
 answered : (e : Else-not-is_sheet) → e.is_expander-known.result ≡ is_expander (expander_number (sheet_of (text e)).expander)
-answered e = e.is_expander-known.ensures ∙ ap is_expander (says e).expander-read
+answered e = e.is_expander-known.ensures ∙ ap is_expander (says e).expander_read
 
 -- ---- the needs
 pub returns-then-not-is_sheet : goal.returns-then-not-is_sheet
 returns-then-not-is_sheet c =
     let a = c.args in
     let none : is_sheet a.text.now ≡ false = sym c.read_sheet-sheet.ensures.sheet ∙ not-true _ c.if-not-is_sheet.true-raw in
-    refused-reply a.text.now a.out.now 10 _ (no-sheet a.text.now (length a.out.now) none) c.refusal.ensures.0 c.refusal.ensures.1
+    refused_reply a.text.now a.out.now 10 _ (no_sheet_lem a.text.now (length a.out.now) none) c.refusal.ensures.0 c.refusal.ensures.1
 
 pub returns-then-no_bits : goal.returns-then-no_bits
 returns-then-no_bits c =
     let e = (goal.at.returns-then-no_bits c).Else-not-is_sheet in
     let less = ltb-true c.read_sheet-sheet.result.n 1 c.if-no_bits.true-raw in
-    let is = no_bits (text e) (length (out e)) (read e) (omega (arith, less, (says e).n-read)) in
-    refused-reply (text e) (out e) 1 _ is c.refusal-then-no_bits.ensures.0 c.refusal-then-no_bits.ensures.1
+    let is = no_bits (text e) (length (out e)) (read e) (omega (arith, less, (says e).n_read)) in
+    refused_reply (text e) (out e) 1 _ is c.refusal-then-no_bits.ensures.0 c.refusal-then-no_bits.ensures.1
 
 pub returns-then-outside : goal.returns-then-outside
 returns-then-outside c =
     let g = goal.at.returns-then-outside c in
     let e = g.Else-not-is_sheet in
     let beyond = sym (threshold e) ∙ c.if-outside.true in
-    let is = bad-threshold (text e) (length (out e)) (read e) (from e (some_bits g.Else-no_bits)) (to e) beyond in
-    refused-reply (text e) (out e) 2 _ is c.refusal-then-outside.ensures.0 c.refusal-then-outside.ensures.1
+    let is = bad_threshold (text e) (length (out e)) (read e) (from e (some_bits g.Else-no_bits)) (to e) beyond in
+    refused_reply (text e) (out e) 2 _ is c.refusal-then-outside.ensures.0 c.refusal-then-outside.ensures.1
 
 pub returns-then-not-known : goal.returns-then-not-known
 returns-then-not-known c =
     let g = goal.at.returns-then-not-known c in
     let e = g.Else-not-is_sheet in
     let unknown = sym (answered e) ∙ not-true _ c.if-not-known.true-raw in
-    let is = no-expander (text e) (length (out e)) (read e) (from e (some_bits g.Else-no_bits)) (to e) (inside e c.if-outside.false) unknown in
-    refused-reply (text e) (out e) 3 _ is c.refusal-then-not-known.ensures.0 c.refusal-then-not-known.ensures.1
+    let is = no_expander (text e) (length (out e)) (read e) (from e (some_bits g.Else-no_bits)) (to e) (inside e c.if-outside.false) unknown in
+    refused_reply (text e) (out e) 3 _ is c.refusal-then-not-known.ensures.0 c.refusal-then-not-known.ensures.1
 
 pub solve-requires : goal.solve-requires
 solve-requires c =
@@ -100,13 +100,13 @@ solve-requires c =
       text_value = (
         read e,
         some_bits g.Else-no_bits,
-        omega (arith, s.n-read, (within e).n-most),
+        omega (arith, s.n_read, (within e).n_most),
         (bounded g.Else-outside).0,
         (bounded g.Else-outside).1,
         sym c.is_expander-known.ensures ∙ not-false _ c.if-not-known.false-raw,
-        omega (arith, s.count-read, (within e).lines-most),
+        omega (arith, s.count_is_read, (within e).lines_at_most),
       );
-      n_value = (s.n-read, s.t-read, s.expander-read, s.count-read);
+      n_value = (s.n_read, s.t_read, s.expander_read, s.count_is_read);
     }
 
 pub returns : goal.returns
@@ -117,5 +117,5 @@ returns c =
     let t-inside = inside e c.if-outside.false in
     let known = sym (answered e) ∙ not-false _ c.if-not-known.false-raw in
     let t-in = bounds most_threshold (sheet_of (text e)).t t-inside in
-    let same = search-answer (sheet_of (text e)) (within e) some known t-in.0 t-in.1 in
-    rw (last-cause (text e) (length (out e)) (read e) some (to e) t-inside known, ← same) c.solve.ensures
+    let same = search_answer (sheet_of (text e)) (within e) some known t-in.0 t-in.1 in
+    rw (last_cause (text e) (length (out e)) (read e) some (to e) t-inside known, ← same) c.solve.ensures

@@ -5,8 +5,8 @@ use mathlib.Core.Path.{◌≡◌, refl, sym}
 use mathlib.Core.List.{[], ◌∷◌}
 use borrow.Author.Tests.{lt-ltb, le-ltb}
 use lib.ListN.{length, length-append}
-use Rattle.places.proofs.Places.{overlay-nil}
-use Rattle.calls.proofs.Judged.{exit-equal}
+use Rattle.places.proofs.Places.{overlay_nil}
+use Rattle.calls.proofs.Judged.{exit_equal}
 use Rattle.exam_text.specs.Characters.{newline, decimal}
 use Rattle.exam_lines.specs.Lines.{refused_text, refused_outcome}
 use Rattle.exam_lines.proofs.refused_line.Goals as goal
@@ -21,7 +21,7 @@ unfolding refused_outcome
 returns-then-out-size c =
     let a = c.args in
     rw (lt-ltb (length a.out.now) (length (refused_text a.number)) (omega (arith, size (goal.at.returns-then-out-size c).After-decimal_length-size, c.if-out-size.true)))
-    (exit-equal refl refl (sym (overlay-nil a.out.now)))
+    (exit_equal refl refl (sym (overlay_nil a.out.now)))
 
 pub write_refused-requires : goal.write_refused-requires
 write_refused-requires c = omega (arith, size (goal.at.write_refused-requires c).After-decimal_length-size, c.if-out-size.false)
@@ -31,4 +31,4 @@ unfolding refused_outcome
 returns c =
     let a = c.args in
     rw (le-ltb (length a.out.now) (length (refused_text a.number)) (omega (arith, size (goal.at.returns c).After-decimal_length-size, c.if-out-size.false)))
-    (exit-equal refl (size (goal.at.returns c).After-decimal_length-size) c.write_refused.ensures)
+    (exit_equal refl (size (goal.at.returns c).After-decimal_length-size) c.write_refused.ensures)

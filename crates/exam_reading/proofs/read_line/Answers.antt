@@ -5,7 +5,7 @@ use mathlib.Core.Bool.{true}
 use borrow.Author.Tests.{not-true, not-false}
 use Rattle.bits.specs.Packing.{value, pack_in}
 use Rattle.exam_text.specs.Reader.{has_line}
-use Rattle.exam_text.proofs.Placed.{none-stands, stands-within, string-stands, seed0-stands, seed1-stands, seeds-hex}
+use Rattle.exam_text.proofs.Placed.{none_stands, stands_within, string_stands, seed0_stands, seed1_stands, seeds_hex}
 use Rattle.exam_reading.proofs.read_line.Goals as goal
 use Rattle.exam_reading.proofs.read_line.Goals.{Else-not-has_line}
 
@@ -16,39 +16,39 @@ pub returns-then-not-has_line : goal.returns-then-not-has_line
 unfolding pack_in value
 returns-then-not-has_line c =
     let a = c.args in
-    rw (none-stands a.n a.at a.text.now (sym c.has_line.ensures ∙ not-true _ c.if-not-has_line.true-raw)) (record { string = refl; seeds = (refl, refl) })
+    rw (none_stands a.n a.at a.text.now (sym c.has_line.ensures ∙ not-true _ c.if-not-has_line.true-raw)) (record { string = refl; seeds = (refl, refl) })
 
 pub read_string-string-requires : goal.read_string-string-requires
-read_string-string-requires c = let a = c.args in omega (arith, stands-within a.n a.at a.text.now (stands c))
+read_string-string-requires c = let a = c.args in omega (arith, stands_within a.n a.at a.text.now (stands c))
 
 pub overflow_add-at : goal.overflow_add-at
-overflow_add-at c = let a = c.args in omega (arith, stands-within a.n a.at a.text.now (stands (goal.at.overflow_add-at c).Else-not-has_line))
+overflow_add-at c = let a = c.args in omega (arith, stands_within a.n a.at a.text.now (stands (goal.at.overflow_add-at c).Else-not-has_line))
 
 pub overflow_add-at-2 : goal.overflow_add-at-2
-overflow_add-at-2 c = let a = c.args in omega (arith, stands-within a.n a.at a.text.now (stands (goal.at.overflow_add-at-2 c).Else-not-has_line))
+overflow_add-at-2 c = let a = c.args in omega (arith, stands_within a.n a.at a.text.now (stands (goal.at.overflow_add-at-2 c).Else-not-has_line))
 
 pub read_seed-seed0-requires : goal.read_seed-seed0-requires
 read_seed-seed0-requires c =
     let a = c.args in
-    (omega (arith, stands-within a.n a.at a.text.now (stands (goal.at.read_seed-seed0-requires c).Else-not-has_line)), (seeds-hex a.n a.at a.text.now (stands (goal.at.read_seed-seed0-requires c).Else-not-has_line)).0)
+    (omega (arith, stands_within a.n a.at a.text.now (stands (goal.at.read_seed-seed0-requires c).Else-not-has_line)), (seeds_hex a.n a.at a.text.now (stands (goal.at.read_seed-seed0-requires c).Else-not-has_line)).0)
 
 pub overflow_add-at-3 : goal.overflow_add-at-3
-overflow_add-at-3 c = let a = c.args in omega (arith, stands-within a.n a.at a.text.now (stands (goal.at.overflow_add-at-3 c).Else-not-has_line))
+overflow_add-at-3 c = let a = c.args in omega (arith, stands_within a.n a.at a.text.now (stands (goal.at.overflow_add-at-3 c).Else-not-has_line))
 
 pub overflow_add-at-4 : goal.overflow_add-at-4
-overflow_add-at-4 c = let a = c.args in omega (arith, stands-within a.n a.at a.text.now (stands (goal.at.overflow_add-at-4 c).Else-not-has_line))
+overflow_add-at-4 c = let a = c.args in omega (arith, stands_within a.n a.at a.text.now (stands (goal.at.overflow_add-at-4 c).Else-not-has_line))
 
 pub read_seed-seed1-requires : goal.read_seed-seed1-requires
 read_seed-seed1-requires c =
     let a = c.args in
-    (omega (arith, stands-within a.n a.at a.text.now (stands (goal.at.read_seed-seed1-requires c).Else-not-has_line)), (seeds-hex a.n a.at a.text.now (stands (goal.at.read_seed-seed1-requires c).Else-not-has_line)).1)
+    (omega (arith, stands_within a.n a.at a.text.now (stands (goal.at.read_seed-seed1-requires c).Else-not-has_line)), (seeds_hex a.n a.at a.text.now (stands (goal.at.read_seed-seed1-requires c).Else-not-has_line)).1)
 
 pub returns : goal.returns
 returns c =
     let a = c.args in record {
-      string = c.read_string-string.ensures ∙ ap (pack_in 4) (string-stands a.n a.at a.text.now (stands (goal.at.returns c).Else-not-has_line));
+      string = c.read_string-string.ensures ∙ ap (pack_in 4) (string_stands a.n a.at a.text.now (stands (goal.at.returns c).Else-not-has_line));
       seeds = (
-        c.read_seed-seed0.ensures ∙ seed0-stands a.n a.at a.text.now (stands (goal.at.returns c).Else-not-has_line),
-        c.read_seed-seed1.ensures ∙ seed1-stands a.n a.at a.text.now (stands (goal.at.returns c).Else-not-has_line),
+        c.read_seed-seed0.ensures ∙ seed0_stands a.n a.at a.text.now (stands (goal.at.returns c).Else-not-has_line),
+        c.read_seed-seed1.ensures ∙ seed1_stands a.n a.at a.text.now (stands (goal.at.returns c).Else-not-has_line),
       );
     }

@@ -4,7 +4,7 @@ use mathlib.Core.Path.{◌≡◌, sym, ◌∙◌}
 use mathlib.Core.Bool.{Bool, true, false, false≢true}
 use borrow.Author.Tests.{not-true, not-false}
 use Rattle.exam_text.specs.Reader.{is_first_line}
-use Rattle.exam_text.proofs.SheetTests.{too_long, no-first-line, too_wide, too_many, lines-decide, sheet-says}
+use Rattle.exam_text.proofs.SheetTests.{too_long, no_first_line_lem, too_wide, too_many, lines_decide, sheet_says}
 use Rattle.exam_reading.proofs.read_sheet.Goals as goal
 use Rattle.exam_reading.proofs.read_sheet.Goals.{Else-not-first}
 
@@ -31,7 +31,7 @@ pub returns-then-not-first : goal.returns-then-not-first
 returns-then-not-first c =
     let t = c.args.text.now in
     record {
-      sheet = c.no_sheet-then-not-first.ensures.is_sheet_value ∙ sym (no-first-line t (omega arith) (sym c.read_first_line-first.ensures.laid ∙ not-true _ c.if-not-first.true));
+      sheet = c.no_sheet-then-not-first.ensures.is_sheet_value ∙ sym (no_first_line_lem t (omega arith) (sym c.read_first_line-first.ensures.laid ∙ not-true _ c.if-not-first.true));
       says = unsaid c.no_sheet-then-not-first.ensures.is_sheet_value;
       none = λ q. c.no_sheet-then-not-first.ensures.n_value;
     }
@@ -67,7 +67,7 @@ returns-then-not-are_lines c =
     let r = c.read_first_line-first in
     record {
       sheet = c.no_sheet-then-not-are_lines.ensures.is_sheet_value
-          ∙ sym (lines-decide t (omega arith) (first (goal.at.returns-then-not-are_lines c).Else-not-first) _ _ _ _ _ (r.ensures.says (laid (goal.at.returns-then-not-are_lines c).Else-not-first))
+          ∙ sym (lines_decide t (omega arith) (first (goal.at.returns-then-not-are_lines c).Else-not-first) _ _ _ _ _ (r.ensures.says (laid (goal.at.returns-then-not-are_lines c).Else-not-first))
           c.if-n-gt32.false c.if-count-gt32.false
           ∙ sym c.are_lines.ensures
           ∙ not-true _ c.if-not-are_lines.true-raw);
@@ -84,7 +84,7 @@ returns c =
     let d = c.if-count-gt32.false in
     let l = sym c.are_lines.ensures ∙ not-false _ c.if-not-are_lines.false-raw in
     record {
-      sheet = sym (lines-decide t (omega arith) (first (goal.at.returns c).Else-not-first) _ _ _ _ _ says b d ∙ l);
-      says = λ q. sheet-says t (omega arith) (first (goal.at.returns c).Else-not-first) _ _ _ _ _ says b d;
+      sheet = sym (lines_decide t (omega arith) (first (goal.at.returns c).Else-not-first) _ _ _ _ _ says b d ∙ l);
+      says = λ q. sheet_says t (omega arith) (first (goal.at.returns c).Else-not-first) _ _ _ _ _ says b d;
       none = λ q. absurd (false≢true (sym q));
     }

@@ -12,9 +12,9 @@ use Rattle.expander.specs.Expander.{is_expander}
 use Rattle.point.specs.PublicShare.{public_share_length}
 use Rattle.exam_text.specs.Sheet.{expander_number, Within}
 use Rattle.exam_text.specs.Reader.{is_sheet, sheet_of, SheetSays}
-use Rattle.exam_text.proofs.ReaderExact.{sheet-within}
+use Rattle.exam_text.proofs.ReaderExact.{sheet_within}
 use Rattle.exam_text.proofs.Placed as placed
-use Rattle.exam_reports.proofs.SheetMaking.{no-sheet, no_bits, no-expander, no_room_lem, all_made}
+use Rattle.exam_reports.proofs.SheetMaking.{no_sheet_lem, no_bits, no_expander, no_room_lem, all_made}
 use Rattle.exam_reports.proofs.make_reports.Goals as goal
 use Rattle.exam_reports.proofs.make_reports.Goals.{Else-n-lt1, Else-not-fit, Else-not-is_expander, Else-not-sheet}
 
@@ -31,14 +31,14 @@ says : (e : Else-not-sheet) → let r = e.read_sheet-sheet.result in SheetSays (
 says e = e.read_sheet-sheet.ensures.says (told e)
 
 within : (e : Else-not-sheet) → Within (sheet_of (text e))
-within e = (sheet-within (text e) (read e)).0
+within e = (sheet_within (text e) (read e)).0
 
 from : (e : Else-n-lt1) → 1 ≤ (sheet_of (e.args.text.now)).n
-from e = omega (arith, e.if-n-lt1.false, (let it : let r = e.read_sheet-sheet.result in SheetSays (e.args.text.now) r.n r.t r.count r.expander r.lines = e.read_sheet-sheet.ensures.says (let it : e.read_sheet-sheet.result.is_sheet ≡ true = not-false _ e.if-not-sheet.false in it) in it).n-read)
+from e = omega (arith, e.if-n-lt1.false, (let it : let r = e.read_sheet-sheet.result in SheetSays (e.args.text.now) r.n r.t r.count r.expander r.lines = e.read_sheet-sheet.ensures.says (let it : e.read_sheet-sheet.result.is_sheet ≡ true = not-false _ e.if-not-sheet.false in it) in it).n_read)
 
 known : (e : Else-not-is_expander) → is_expander (expander_number (sheet_of (e.args.text.now)).expander) ≡ true
 known e =
-    ap is_expander (sym (let it : let r = e.read_sheet-sheet.result in SheetSays (e.args.text.now) r.n r.t r.count r.expander r.lines = e.read_sheet-sheet.ensures.says (let it : e.read_sheet-sheet.result.is_sheet ≡ true = not-false _ e.if-not-sheet.false in it) in it).expander-read) ∙ sym e.is_expander.ensures ∙ not-false _ e.if-not-is_expander.false-raw
+    ap is_expander (sym (let it : let r = e.read_sheet-sheet.result in SheetSays (e.args.text.now) r.n r.t r.count r.expander r.lines = e.read_sheet-sheet.ensures.says (let it : e.read_sheet-sheet.result.is_sheet ≡ true = not-false _ e.if-not-sheet.false in it) in it).expander_read) ∙ sym e.is_expander.ensures ∙ not-false _ e.if-not-is_expander.false-raw
 
 -- all fit
 passed : (e : Else-not-fit) → e.fit.result ≡ true
@@ -60,31 +60,31 @@ rooms e =
 pub returns-then-not-sheet : goal.returns-then-not-sheet
 returns-then-not-sheet c =
     let a = c.args in
-    no-sheet a.text.now a.seeds0.now a.seeds1.now a.shares.now (sym c.read_sheet-sheet.ensures.sheet ∙ not-true _ c.if-not-sheet.true)
+    no_sheet_lem a.text.now a.seeds0.now a.seeds1.now a.shares.now (sym c.read_sheet-sheet.ensures.sheet ∙ not-true _ c.if-not-sheet.true)
 
 pub returns-then-n-lt1 : goal.returns-then-n-lt1
-returns-then-n-lt1 c = no_bits (text (goal.at.returns-then-n-lt1 c).Else-not-sheet) _ _ _ (read (goal.at.returns-then-n-lt1 c).Else-not-sheet) (omega (arith, c.if-n-lt1.true, (says (goal.at.returns-then-n-lt1 c).Else-not-sheet).n-read))
+returns-then-n-lt1 c = no_bits (text (goal.at.returns-then-n-lt1 c).Else-not-sheet) _ _ _ (read (goal.at.returns-then-n-lt1 c).Else-not-sheet) (omega (arith, c.if-n-lt1.true, (says (goal.at.returns-then-n-lt1 c).Else-not-sheet).n_read))
 
 pub returns-then-not-is_expander : goal.returns-then-not-is_expander
 returns-then-not-is_expander c =
-    no-expander (text (goal.at.returns-then-not-is_expander c).Else-not-sheet) _ _ _ (read (goal.at.returns-then-not-is_expander c).Else-not-sheet) (from (goal.at.returns-then-not-is_expander c).Else-n-lt1) (ap is_expander (sym (says (goal.at.returns-then-not-is_expander c).Else-not-sheet).expander-read) ∙ sym c.is_expander.ensures ∙ not-true _ c.if-not-is_expander.true-raw)
+    no_expander (text (goal.at.returns-then-not-is_expander c).Else-not-sheet) _ _ _ (read (goal.at.returns-then-not-is_expander c).Else-not-sheet) (from (goal.at.returns-then-not-is_expander c).Else-n-lt1) (ap is_expander (sym (says (goal.at.returns-then-not-is_expander c).Else-not-sheet).expander_read) ∙ sym c.is_expander.ensures ∙ not-true _ c.if-not-is_expander.true-raw)
 
 pub fit-requires : goal.fit-requires
 fit-requires c =
-    (omega (arith, (says (goal.at.fit-requires c).Else-not-sheet).n-read, (within (goal.at.fit-requires c).Else-not-sheet).n-most), omega (arith, (says (goal.at.fit-requires c).Else-not-sheet).count-read, (within (goal.at.fit-requires c).Else-not-sheet).lines-most))
+    (omega (arith, (says (goal.at.fit-requires c).Else-not-sheet).n_read, (within (goal.at.fit-requires c).Else-not-sheet).n_most), omega (arith, (says (goal.at.fit-requires c).Else-not-sheet).count_is_read, (within (goal.at.fit-requires c).Else-not-sheet).lines_at_most))
 
 pub returns-then-not-fit : goal.returns-then-not-fit
 returns-then-not-fit c =
-    no_room_lem (text (goal.at.returns-then-not-fit c).Else-not-sheet) _ _ _ (read (goal.at.returns-then-not-fit c).Else-not-sheet) (from (goal.at.returns-then-not-fit c).Else-n-lt1) (known (goal.at.returns-then-not-fit c).Else-not-is_expander) _ _ (says (goal.at.returns-then-not-fit c).Else-not-sheet).n-read (says (goal.at.returns-then-not-fit c).Else-not-sheet).count-read (sym c.fit.ensures ∙ not-true _ c.if-not-fit.true-raw)
+    no_room_lem (text (goal.at.returns-then-not-fit c).Else-not-sheet) _ _ _ (read (goal.at.returns-then-not-fit c).Else-not-sheet) (from (goal.at.returns-then-not-fit c).Else-n-lt1) (known (goal.at.returns-then-not-fit c).Else-not-is_expander) _ _ (says (goal.at.returns-then-not-fit c).Else-not-sheet).n_read (says (goal.at.returns-then-not-fit c).Else-not-sheet).count_is_read (sym c.fit.ensures ∙ not-true _ c.if-not-fit.true-raw)
 
 pub write_reports-requires : goal.write_reports-requires
 write_reports-requires c =
     let s = says (goal.at.write_reports-requires c).Else-not-sheet in record {
       le_n = (
         c.if-n-lt1.false,
-        omega (arith, s.n-read, (within (goal.at.write_reports-requires c).Else-not-sheet).n-most),
+        omega (arith, s.n_read, (within (goal.at.write_reports-requires c).Else-not-sheet).n_most),
         sym c.is_expander.ensures ∙ not-false _ c.if-not-is_expander.false-raw,
-        placed.sheet-laid (text (goal.at.write_reports-requires c).Else-not-sheet) _ _ c.read_sheet-sheet.result.lines s.n-read s.count-read s.lines-placed (read (goal.at.write_reports-requires c).Else-not-sheet),
+        placed.sheet_laid (text (goal.at.write_reports-requires c).Else-not-sheet) _ _ c.read_sheet-sheet.result.lines s.n_read s.count_is_read s.lines_placed (read (goal.at.write_reports-requires c).Else-not-sheet),
       );
       count_in_bounds = rooms (goal.at.write_reports-requires c).Else-not-fit;
     }
@@ -93,5 +93,5 @@ pub returns : goal.returns
 returns c =
     let s = says (goal.at.returns c).Else-not-sheet in
     let r = c.read_sheet-sheet.result in
-    all_made (text (goal.at.returns c).Else-not-sheet) _ _ _ (read (goal.at.returns c).Else-not-sheet) (from (goal.at.returns c).Else-n-lt1) (known (goal.at.returns c).Else-not-is_expander) r.n r.count s.n-read s.count-read (sym c.fit.ensures ∙ passed (goal.at.returns c).Else-not-fit) r.expander r.lines s.expander-read
-    (placed.sheet-lines (text (goal.at.returns c).Else-not-sheet) r.n r.count r.lines s.n-read s.count-read s.lines-placed) _ _ _ c.write_reports.ensures.seeds0_after c.write_reports.ensures.seeds1_after c.write_reports.ensures.shares_after
+    all_made (text (goal.at.returns c).Else-not-sheet) _ _ _ (read (goal.at.returns c).Else-not-sheet) (from (goal.at.returns c).Else-n-lt1) (known (goal.at.returns c).Else-not-is_expander) r.n r.count s.n_read s.count_is_read (sym c.fit.ensures ∙ passed (goal.at.returns c).Else-not-fit) r.expander r.lines s.expander_read
+    (placed.sheet_lines (text (goal.at.returns c).Else-not-sheet) r.n r.count r.lines s.n_read s.count_is_read s.lines_placed) _ _ _ c.write_reports.ensures.seeds0_after c.write_reports.ensures.seeds1_after c.write_reports.ensures.shares_after

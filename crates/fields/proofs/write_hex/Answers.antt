@@ -7,8 +7,8 @@ use borrow.Author.Tests.{not-true, not-false}
 use lib.ListN.{length}
 use lib.Dec.{leb}
 use Rattle.exam_text.specs.Characters.{hexadecimal}
-use Rattle.exam_text.proofs.LineFields.{hexadecimal-length}
-use Rattle.fields.proofs.FieldRoom.{field-none, field_room, field_put}
+use Rattle.exam_text.proofs.LineFields.{hexadecimal_length}
+use Rattle.fields.proofs.FieldRoom.{field_none, field_room, field_put}
 use Rattle.fields.proofs.write_hex.Goals as goal
 use Rattle.fields.proofs.write_hex.Goals.{Else-not-within}
 
@@ -19,13 +19,13 @@ room e = sym e.within.ensures ∙ not-false _ e.if-not-within.false-raw
 pub returns-then-not-within : goal.returns-then-not-within
 returns-then-not-within c =
     let a = c.args in
-    let both = field-none a.out.now a.at (hexadecimal a.bytes.now) a.then _ (sym (hexadecimal-length a.bytes.now)) (sym c.within.ensures ∙ not-true _ c.if-not-within.true-raw) in
+    let both = field_none a.out.now a.at (hexadecimal a.bytes.now) a.then _ (sym (hexadecimal_length a.bytes.now)) (sym c.within.ensures ∙ not-true _ c.if-not-within.true-raw) in
     record { place = both.0; space = both.1 }
 
 pub put_hex-here-requires : goal.put_hex-here-requires
 put_hex-here-requires c =
     let a = c.args in
-    omega (arith, hexadecimal-length a.bytes.now, field_room a.out.now a.at (hexadecimal a.bytes.now) a.then _ (sym (hexadecimal-length a.bytes.now)) (room (goal.at.put_hex-here-requires c).Else-not-within))
+    omega (arith, hexadecimal_length a.bytes.now, field_room a.out.now a.at (hexadecimal a.bytes.now) a.then _ (sym (hexadecimal_length a.bytes.now)) (room (goal.at.put_hex-here-requires c).Else-not-within))
 
 pub put-requires : goal.put-requires
 put-requires c =
@@ -33,12 +33,12 @@ put-requires c =
     omega (
       arith,
       c.put_hex-here.ensures.value,
-      hexadecimal-length a.bytes.now,
-      field_room a.out.now a.at (hexadecimal a.bytes.now) a.then _ (sym (hexadecimal-length a.bytes.now)) (room (goal.at.put-requires c).Else-not-within),
+      hexadecimal_length a.bytes.now,
+      field_room a.out.now a.at (hexadecimal a.bytes.now) a.then _ (sym (hexadecimal_length a.bytes.now)) (room (goal.at.put-requires c).Else-not-within),
     )
 
 pub returns : goal.returns
 returns c =
     let a = c.args in
-    let both = field_put a.out.now a.at (hexadecimal a.bytes.now) a.then _ (sym (hexadecimal-length a.bytes.now)) (room (goal.at.returns c).Else-not-within) _ _ (c.put_hex-here.ensures.value, c.put_hex-here.ensures.out_after) _ _ (c.put.ensures.value, c.put.ensures.out_after) in
+    let both = field_put a.out.now a.at (hexadecimal a.bytes.now) a.then _ (sym (hexadecimal_length a.bytes.now)) (room (goal.at.returns c).Else-not-within) _ _ (c.put_hex-here.ensures.value, c.put_hex-here.ensures.out_after) _ _ (c.put.ensures.value, c.put.ensures.out_after) in
     record { place = both.0; space = both.1 }

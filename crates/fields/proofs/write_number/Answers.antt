@@ -7,7 +7,7 @@ use borrow.Author.Tests.{not-true, not-false}
 use lib.ListN.{length}
 use lib.Dec.{leb}
 use Rattle.exam_text.specs.Characters.{decimal}
-use Rattle.fields.proofs.FieldRoom.{field-none, field_room, field_put}
+use Rattle.fields.proofs.FieldRoom.{field_none, field_room, field_put}
 use Rattle.fields.proofs.write_number.Goals as goal
 use Rattle.fields.proofs.write_number.Goals.{Else-not-within}
 
@@ -18,7 +18,7 @@ room e = sym e.within.ensures ∙ not-false _ e.if-not-within.false-raw
 pub returns-then-not-within : goal.returns-then-not-within
 returns-then-not-within c =
     let a = c.args in
-    let both = field-none a.out.now a.at (decimal a.x) a.then _ c.decimal_length.ensures.0 (sym c.within.ensures ∙ not-true _ c.if-not-within.true-raw) in
+    let both = field_none a.out.now a.at (decimal a.x) a.then _ c.decimal_length.ensures.0 (sym c.within.ensures ∙ not-true _ c.if-not-within.true-raw) in
     record { place = both.0; space = both.1 }
 
 pub write_decimal-here-requires : goal.write_decimal-here-requires

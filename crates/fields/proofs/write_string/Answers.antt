@@ -7,10 +7,10 @@ use borrow.Author.Tests.{not-true, not-false}
 use lib.ListN.{length, length-append}
 use Rattle.bits.specs.Strings.{Bits}
 use Rattle.bits.specs.Packing.{packed_length, unpack}
-use Rattle.places.proofs.Places.{put_at-more}
+use Rattle.places.proofs.Places.{put_at_more}
 use Rattle.exam_text.specs.Characters.{binary}
 use Rattle.fields.proofs.FieldChain.{Wrote}
-use Rattle.fields.proofs.LineRoom.{bits-size, not-put, has-line-room, put-here}
+use Rattle.fields.proofs.LineRoom.{bits_size, not_put, has_line_room, put_here}
 use Rattle.fields.proofs.write_string.Goals as goal
 use Rattle.fields.proofs.write_string.Goals.{Else-not-has_room}
 
@@ -19,19 +19,19 @@ abbrev field : ℕ → Bits → List ℕ
 field then q = binary q ++ (then ∷ [])
 
 size : (then k : ℕ) (packed : List ℕ) → length packed ≡ packed_length k → length (field then (unpack k packed)) ≡ k + 1
-size then k packed sized = omega (arith, bits-size k packed sized, length-append (binary (unpack k packed)) (then ∷ []))
+size then k packed sized = omega (arith, bits_size k packed sized, length-append (binary (unpack k packed)) (then ∷ []))
 
 -- there is room
 room : (e : Else-not-has_room) → let a = e.args in
     (length a.packed.now ≡ packed_length a.k) × (a.at + length (field a.then (unpack a.k a.packed.now)) ≤ length a.out.now)
 room e =
     let a = e.args in
-    has-line-room (field a.then) a.out.now a.at a.k a.packed.now 1 (size a.then a.k a.packed.now) (sym e.has_room.ensures ∙ not-false _ e.if-not-has_room.false-raw)
+    has_line_room (field a.then) a.out.now a.at a.k a.packed.now 1 (size a.then a.k a.packed.now) (sym e.has_room.ensures ∙ not-false _ e.if-not-has_room.false-raw)
 
 pub returns-then-not-has_room : goal.returns-then-not-has_room
 returns-then-not-has_room c =
     let a = c.args in
-    let both = not-put (field a.then) a.out.now a.at a.k a.packed.now 1 (size a.then a.k a.packed.now) (sym c.has_room.ensures ∙ not-true _ c.if-not-has_room.true-raw) in
+    let both = not_put (field a.then) a.out.now a.at a.k a.packed.now 1 (size a.then a.k a.packed.now) (sym c.has_room.ensures ∙ not-true _ c.if-not-has_room.true-raw) in
     record { place = both.0; space = both.1 }
 
 pub write_bits-here-requires : goal.write_bits-here-requires
@@ -51,7 +51,7 @@ returns c =
     let long = length-append v (a.then ∷ []) in
     let all : Wrote a.out.now a.at (field a.then (unpack a.k a.packed.now)) c.put.new.out c.put.result = (
       omega (arith, c.put.ensures.value, c.write_bits-here.ensures.value, long),
-      c.put.ensures.out_after ∙ rw (c.write_bits-here.ensures.value, c.write_bits-here.ensures.out_after) (put_at-more a.out.now a.at v (a.then ∷ []) (omega (arith, (room (goal.at.returns c).Else-not-has_room).1, long))),
+      c.put.ensures.out_after ∙ rw (c.write_bits-here.ensures.value, c.write_bits-here.ensures.out_after) (put_at_more a.out.now a.at v (a.then ∷ []) (omega (arith, (room (goal.at.returns c).Else-not-has_room).1, long))),
     ) in
-    let both = put-here (field a.then) a.out.now a.at a.k a.packed.now (room (goal.at.returns c).Else-not-has_room).0 (room (goal.at.returns c).Else-not-has_room).1 _ _ all in
+    let both = put_here (field a.then) a.out.now a.at a.k a.packed.now (room (goal.at.returns c).Else-not-has_room).0 (room (goal.at.returns c).Else-not-has_room).1 _ _ all in
     record { place = both.0; space = both.1 }

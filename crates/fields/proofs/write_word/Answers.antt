@@ -6,7 +6,7 @@ use mathlib.Core.Bool.{true}
 use borrow.Author.Tests.{not-true, not-false}
 use lib.ListN.{length}
 use lib.Dec.{leb}
-use Rattle.fields.proofs.FieldRoom.{field-none, field_room, field_put}
+use Rattle.fields.proofs.FieldRoom.{field_none, field_room, field_put}
 use Rattle.fields.proofs.write_word.Goals as goal
 use Rattle.fields.proofs.write_word.Goals.{Else-not-within}
 
@@ -17,7 +17,7 @@ room e = sym e.within.ensures ∙ not-false _ e.if-not-within.false-raw
 pub returns-then-not-within : goal.returns-then-not-within
 returns-then-not-within c =
     let a = c.args in
-    let both = field-none a.out.now a.at a.word.now a.then _ refl (sym c.within.ensures ∙ not-true _ c.if-not-within.true-raw) in
+    let both = field_none a.out.now a.at a.word.now a.then _ refl (sym c.within.ensures ∙ not-true _ c.if-not-within.true-raw) in
     record { place = both.0; space = both.1 }
 
 pub overflow_add-at : goal.overflow_add-at

@@ -4,8 +4,8 @@ use Rattle.std.proofs.lemmas.List.{get_or_default}
 use Rattle.nodes.specs.declared.Node.{Node}
 use Rattle.turns.specs.declared.Place.{Place}
 use Rattle.turns.specs.Turns.{turned_node, turned_sums, next_place, no_struct, place_at}
-use Rattle.in_place.proofs.Lengths.{place-left, nodes-length}
-use Rattle.kept_nodes.proofs.Steps.{nodes-more, nodes-none, place-more, place_none, sums-more, sums_none}
+use Rattle.in_place.proofs.Lengths.{place_left, nodes_length}
+use Rattle.kept_nodes.proofs.Steps.{nodes_more, nodes_none, place_more, place_none, sums_more, sums_none}
 use Rattle.kept_nodes.proofs.advance.Goals as goal
 use Rattle.kept_nodes.proofs.advance.Goals.{After-at-1}
 
@@ -16,7 +16,7 @@ loop-at-init c =
     record {
       fewer = omega arith;
       place = rw none (place_none a.task a.shares.now a.last.now a.query.now a.at a.nodes.now);
-      nodes = rw none (nodes-none a.task a.shares.now a.last.now a.query.now a.at a.nodes.now);
+      nodes = rw none (nodes_none a.task a.shares.now a.last.now a.query.now a.at a.nodes.now);
       sums = rw none (sums_none a.task a.shares.now a.last.now a.query.now a.at a.nodes.now a.out.now);
     }
 
@@ -25,7 +25,7 @@ next : (c : After-at-1)
     → c.turn-t.result.next ≡ place_at c.args.task c.args.shares.now c.args.last.now c.args.query.now c.args.at (suc (c.args.at.left - c.loop-at.at.left))
 next c =
     let a = c.args in
-    place-more a.task a.shares.now a.last.now a.query.now a.at a.nodes.now (a.at.left - c.loop-at.at.left) _
+    place_more a.task a.shares.now a.last.now a.query.now a.at a.nodes.now (a.at.left - c.loop-at.at.left) _
     (c.turn-t.ensures.1 ∙ ap (next_place a.task a.last.now a.query.now) c.loop-at.invariant.place)
 
 fewer : (c : After-at-1) → c.turn-t.result.next.left ≡ c.loop-at.at.left - 1
@@ -33,7 +33,7 @@ fewer c =
     let a = c.args in
     let done = a.at.left - c.loop-at.at.left in
     omega
-    (arith, ap (λ (p : Place). p.left) (next c), place-left a.task a.shares.now a.last.now a.query.now a.at (suc done), c.loop-at.invariant.fewer, c.loop-at-test.true)
+    (arith, ap (λ (p : Place). p.left) (next c), place_left a.task a.shares.now a.last.now a.query.now a.at (suc done), c.loop-at.invariant.fewer, c.loop-at-test.true)
 
 pub loop-at-smaller : goal.loop-at-smaller
 loop-at-smaller c = omega (arith, fewer c, c.loop-at-test.true)
@@ -48,7 +48,7 @@ loop-at-preserved c =
     let done = a.at.left - l.at.left in
     let more : a.at.left - c.turn-t.result.next.left ≡ suc done = omega (arith, c.loop-at-test.true, inv.fewer) in
     let among = c.requires done (omega (arith, c.loop-at-test.true, inv.fewer)) in
-    let here : l.at.source < length l.nodes = rw (inv.place, inv.nodes, nodes-length a.task a.shares.now a.last.now a.query.now a.at a.nodes.now done) among.0 in
+    let here : l.at.source < length l.nodes = rw (inv.place, inv.nodes, nodes_length a.task a.shares.now a.last.now a.query.now a.at a.nodes.now done) among.0 in
     let read = get_or_default l.nodes l.at.source (record { seed = []; bit = false }) no_struct here in
     let node =
     told.0 ∙ ap (turned_node a.task a.shares.now a.query.now l.at) read
@@ -63,6 +63,6 @@ loop-at-preserved c =
       nodes =
           rw more
           (ap₂ (λ (ns : List Node) (p : Place). set ns p.target c.turn-t.result.node) inv.nodes inv.place
-          ∙ nodes-more a.task a.shares.now a.last.now a.query.now a.at a.nodes.now done c.turn-t.result.node node);
-      sums = rw more (sums-more a.task a.shares.now a.last.now a.query.now a.at a.nodes.now a.out.now done _ sums);
+          ∙ nodes_more a.task a.shares.now a.last.now a.query.now a.at a.nodes.now done c.turn-t.result.node node);
+      sums = rw more (sums_more a.task a.shares.now a.last.now a.query.now a.at a.nodes.now a.out.now done _ sums);
     }

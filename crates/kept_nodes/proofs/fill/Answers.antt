@@ -3,8 +3,8 @@ use Rattle.std.proofs.Common.{◌≡◌, suc, List, ◌-◌, ◌∙◌, ap, set,
 use Rattle.nodes.specs.declared.Node.{Node}
 use Rattle.node_lists.specs.declared.Filling.{Filling}
 use Rattle.node_lists.specs.Filling.{root_node, filling_at, filling_next}
-use Rattle.node_lists.proofs.AtRoots.{filling-left}
-use Rattle.kept_nodes.proofs.Steps.{filled_more, filled_none, filling-more, filling-none}
+use Rattle.node_lists.proofs.AtRoots.{filling_left}
+use Rattle.kept_nodes.proofs.Steps.{filled_more, filled_none, filling_more, filling_none}
 use Rattle.kept_nodes.proofs.fill.Goals as goal
 use Rattle.kept_nodes.proofs.fill.Goals.{After-at-1}
 
@@ -14,7 +14,7 @@ loop-at-init c =
     let none : a.at.left - a.at.left ≡ 0 = omega arith in
     record {
       fewer = omega arith;
-      turn = rw none (filling-none a.server a.seeds.now a.at a.nodes.now);
+      turn = rw none (filling_none a.server a.seeds.now a.at a.nodes.now);
       nodes = rw none (filled_none a.server a.seeds.now a.at a.nodes.now);
     }
 
@@ -22,13 +22,13 @@ loop-at-init c =
 next : (c : After-at-1) → c.root-t.result.rest ≡ filling_at c.args.server c.args.seeds.now c.args.at (suc (c.args.at.left - c.loop-at.at.left))
 next c =
     let a = c.args in
-    filling-more a.server a.seeds.now a.at a.nodes.now (a.at.left - c.loop-at.at.left) _ (c.root-t.ensures.1 ∙ ap filling_next c.loop-at.invariant.turn)
+    filling_more a.server a.seeds.now a.at a.nodes.now (a.at.left - c.loop-at.at.left) _ (c.root-t.ensures.1 ∙ ap filling_next c.loop-at.invariant.turn)
 
 fewer : (c : After-at-1) → c.root-t.result.rest.left ≡ c.loop-at.at.left - 1
 fewer c =
     let a = c.args in
     let done = a.at.left - c.loop-at.at.left in
-    omega (arith, ap (λ (p : Filling). p.left) (next c), filling-left a.server a.seeds.now a.at (suc done), c.loop-at.invariant.fewer, c.loop-at-test.true)
+    omega (arith, ap (λ (p : Filling). p.left) (next c), filling_left a.server a.seeds.now a.at (suc done), c.loop-at.invariant.fewer, c.loop-at-test.true)
 
 pub loop-at-smaller : goal.loop-at-smaller
 loop-at-smaller c = omega (arith, fewer c, c.loop-at-test.true)

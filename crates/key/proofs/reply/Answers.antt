@@ -5,14 +5,14 @@ use Rattle.places.specs.Places.{overlay}
 use Rattle.calls.specs.Outcome.{Outcome, Exit, exit}
 use Rattle.key_answering.specs.KeyAnswer.{key_output}
 use Rattle.exam_lines.proofs.Inside.{inside}
-use Rattle.key_answering.proofs.KeyOutputs.{key-respond-enough}
+use Rattle.key_answering.proofs.KeyOutputs.{key_respond_enough}
 use Rattle.key.proofs.reply.Goals as goal
 
 pub returns : goal.returns
 unfolding overlay
 returns c =
     let a = c.args in
-    let is = c.respond-reply.ensures ∙ ap (λ (o : Outcome). exit o a.out.now) (key-respond-enough a.text.now _ c.requires) in
+    let is = c.respond-reply.ensures ∙ ap (λ (o : Outcome). exit o a.out.now) (key_respond_enough a.text.now _ c.requires) in
     let size = ap (λ (x : Exit). x.length) is in
     let area = ap (λ (x : Exit). x.area) is in
     let fits = inside _ (key_output a.text.now) a.out.now _ size area in

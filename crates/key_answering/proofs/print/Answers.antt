@@ -19,14 +19,14 @@ whole p = let a = p.args in line_page a.n (line_at a.n a.place a.text.now) a.e
 size_is : (p : After-print_line-end) → p.print_line-end.result ≡ length (whole p)
 size_is p = p.print_line-end.ensures.value.0
 
-printed-is : (p : After-print_line-end) → take p.print_line-end.result p.print_line-end.new.out ≡ whole p
+printed_is : (p : After-print_line-end) → take p.print_line-end.result p.print_line-end.new.out ≡ whole p
 unfolding overlay
-printed-is p = ap₂ take (size_is p) p.print_line-end.ensures.out_after ∙ take-append_seam (whole p) _
+printed_is p = ap₂ take (size_is p) p.print_line-end.ensures.out_after ∙ take-append_seam (whole p) _
 
 pub slice_bounds-write_text-end : goal.slice_bounds-write_text-end
-slice_bounds-write_text-end c = size_is (goal.at.slice_bounds-write_text-end c).After-print_line-end ∙ sym (ap length (printed-is (goal.at.slice_bounds-write_text-end c).After-print_line-end))
+slice_bounds-write_text-end c = size_is (goal.at.slice_bounds-write_text-end c).After-print_line-end ∙ sym (ap length (printed_is (goal.at.slice_bounds-write_text-end c).After-print_line-end))
 
 pub returns : goal.returns
 returns c =
     let out = c.args.out.now in
-    c.write_text.ensures ∙ ap (λ (l : List ℕ). exit (written_in l (length out)) out) (printed-is (goal.at.returns c).After-print_line-end)
+    c.write_text.ensures ∙ ap (λ (l : List ℕ). exit (written_in l (length out)) out) (printed_is (goal.at.returns c).After-print_line-end)

@@ -7,11 +7,11 @@ use Rattle.bits.specs.Packing.{packed_length, unpack}
 use Rattle.point.specs.PublicShare.{public_share_length}
 use Rattle.exam_text.specs.Sheet.{Line}
 use Rattle.exam_text.specs.Reader.{line_at}
-use Rattle.exam_text.proofs.Values.{four-length}
-use Rattle.exam_text.proofs.Placed.{Sound, stands-sound}
+use Rattle.exam_text.proofs.Values.{four_length}
+use Rattle.exam_text.proofs.Placed.{Sound, stands_sound}
 use Rattle.key_answering.specs.KeyPage.{page}
 use Rattle.key_answering.specs.KeyAnswer.{line_page}
-use Rattle.key_answering.proofs.LineKey.{packed-length, share-length, page-read, line-most}
+use Rattle.key_answering.proofs.LineKey.{packed_length_lem, share_length, page_read_lem, line_most}
 use Rattle.key_answering.proofs.print_line.Goals as goal
 use Rattle.key_answering.proofs.print_line.Goals.{After-packed_length-end, After-public_share_length-size, Start}
 
@@ -20,7 +20,7 @@ abbrev line : Start → Line
 line s = let a = s.args in line_at a.n a.place a.text.now
 
 sound : (s : Start) → Sound s.args.n (line s)
-sound s = let a = s.args in stands-sound a.n a.place a.text.now s.requires.le_n.3
+sound s = let a = s.args in stands_sound a.n a.place a.text.now s.requires.le_n.3
 
 -- its string is packed in as many bytes as it takes
 packed : (c : After-packed_length-end) (s : Sound c.args.n (line_at c.args.n c.args.place c.args.text.now))
@@ -28,7 +28,7 @@ packed : (c : After-packed_length-end) (s : Sound c.args.n (line_at c.args.n c.a
 packed c s =
     let a = c.args in
     let r = c.requires.le_n in
-    packed-length a.n a.number a.e r.0 r.1 r.2 (line_at a.n a.place a.text.now) s _ _ c.packed_length-end.ensures c.read_line-line.ensures.string
+    packed_length_lem a.n a.number a.e r.0 r.1 r.2 (line_at a.n a.place a.text.now) s _ _ c.packed_length-end.ensures c.read_line-line.ensures.string
 
 -- ---- the public share
 share : (p : After-public_share_length-size) (s : Sound p.args.n (line_at p.args.n p.args.place p.args.text.now))
@@ -37,7 +37,7 @@ share p s =
     let a = p.args in
     let q = p.requires.le_n in
     let r = p.read_line-line.ensures in
-    share-length a.n a.number a.e q.0 q.1 q.2 (line_at a.n a.place a.text.now) s _ _ p.packed_length-end.ensures r.string _ _ a.share.now _ r.seeds.0 r.seeds.1
+    share_length a.n a.number a.e q.0 q.1 q.2 (line_at a.n a.place a.text.now) s _ _ p.packed_length-end.ensures r.string _ _ a.share.now _ r.seeds.0 r.seeds.1
     p.requires.share_len.0 (ap (λ (x : Exit). x.area) p.make_key.ensures) _ p.public_share_length-size.ensures
 
 whole : (p : After-public_share_length-size) (s : Sound p.args.n (line_at p.args.n p.args.place p.args.text.now)) → let a = p.args in
@@ -48,13 +48,13 @@ whole p s =
     let a = p.args in
     let q = p.requires.le_n in
     let r = p.read_line-line.ensures in
-    page-read a.n a.number a.e q.0 q.1 q.2 (line_at a.n a.place a.text.now) s _ _ p.packed_length-end.ensures r.string _ _ a.share.now _ r.seeds.0 r.seeds.1
+    page_read_lem a.n a.number a.e q.0 q.1 q.2 (line_at a.n a.place a.text.now) s _ _ p.packed_length-end.ensures r.string _ _ a.share.now _ r.seeds.0 r.seeds.1
     p.requires.share_len.0 (ap (λ (x : Exit). x.area) p.make_key.ensures) _ p.public_share_length-size.ensures
 
 -- ---- the needs
 pub slice_bounds-string-end : goal.slice_bounds-string-end
 slice_bounds-string-end c =
-    omega (arith, c.packed_length-end.ensures, c.requires.le_n.1, ap length c.read_line-line.ensures.string, four-length (line (goal.at.slice_bounds-string-end c).Start).string)
+    omega (arith, c.packed_length-end.ensures, c.requires.le_n.1, ap length c.read_line-line.ensures.string, four_length (line (goal.at.slice_bounds-string-end c).Start).string)
 
 pub slice_bounds-packed-end : goal.slice_bounds-packed-end
 slice_bounds-packed-end c =
@@ -80,4 +80,4 @@ returns c =
     let w = c.write_page in
     let is = whole at.After-public_share_length-size (sound at.Start) in
     let value : w.result ≡ length (line_page a.n (line at.Start) a.e) = w.ensures.value ∙ ap length is in
-    record { value = (value, omega (arith, value, line-most a.n a.number a.e q.0 q.1 q.2 (line at.Start) (sound at.Start))); out_after = rw (← is) w.ensures.out_after }
+    record { value = (value, omega (arith, value, line_most a.n a.number a.e q.0 q.1 q.2 (line at.Start) (sound at.Start))); out_after = rw (← is) w.ensures.out_after }

@@ -6,11 +6,11 @@ use lib.ListN.{length, length-set}
 use Rattle.places.specs.Places.{put_at}
 use Rattle.point.specs.PublicShare.{level_bytes}
 use Rattle.nodes.specs.NodeLayout.{node_of, correction_of}
-use Rattle.keymaker.proofs.KeyMaker.{standing-start, standing-more, standing-end}
+use Rattle.keymaker.proofs.KeyMaker.{standing_start, standing_more, standing_end}
 use Rattle.keymaker.proofs.write_key.Goals as goal
 
 pub loop-k-init : goal.loop-k-init
-loop-k-init c = let a = c.args in standing-start a.e a.n a.weight a.string.now a.seed0 a.seed1 a.out.now
+loop-k-init c = let a = c.args in standing_start a.e a.n a.weight a.string.now a.seed0 a.seed1 a.out.now
 
 pub put_control-requires : goal.put_control-requires
 put_control-requires c = omega (arith, c.loop-k.invariant.written.size, c.requires.0, c.loop-k-test.true)
@@ -25,7 +25,7 @@ loop-k-preserved c =
     let a = c.args in
     let l = c.loop-k in
     let w = correction_of c.next_level-level.result.word in
-    standing-more a.e a.n a.weight a.string.now a.seed0 a.seed1 c.requires.1 c.requires.2 a.out.now c.requires.0 l.k c.loop-k-test.true
+    standing_more a.e a.n a.weight a.string.now a.seed0 a.seed1 c.requires.1 c.requires.2 a.out.now c.requires.0 l.k c.loop-k-test.true
     (node_of l.nodes.node0) (node_of l.nodes.node1) l.out l.invariant c.bit_at.result c.bit_at.ensures w c.next_level-level.ensures.word
     c.put_control.new.out c.put_word.new.out c.put_control.ensures
     (c.put_word.ensures ∙ ap (λ (z : ℕ). put_at c.put_control.new.out z (level_bytes w)) c.level_start.ensures)
@@ -38,4 +38,4 @@ pub returns : goal.returns
 returns c =
     let a = c.args in
     let l = c.loop-k in
-    standing-end a.e a.n a.weight a.string.now a.seed0 a.seed1 c.requires.1 c.requires.2 a.out.now c.requires.0 l.k (node_of l.nodes.node0) (node_of l.nodes.node1) l.out l.invariant c.loop-k-test.false
+    standing_end a.e a.n a.weight a.string.now a.seed0 a.seed1 c.requires.1 c.requires.2 a.out.now c.requires.0 l.k (node_of l.nodes.node0) (node_of l.nodes.node1) l.out l.invariant c.loop-k-test.false

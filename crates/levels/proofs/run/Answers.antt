@@ -4,7 +4,7 @@ use lib.ListN.{length}
 use Rattle.bits.specs.Strings.{Bits}
 use Rattle.kept.specs.Kept.{reaches_by}
 use Rattle.levels.specs.Levels.{total_of, ending}
-use Rattle.levels.proofs.Closing.{all_closed, all-cleared}
+use Rattle.levels.proofs.Closing.{all_closed, all_cleared}
 use Rattle.levels.proofs.run.Goals as goal
 use Rattle.levels.proofs.run.Goals.{Start}
 
@@ -21,5 +21,5 @@ pub returns : goal.returns
 unfolding ending
 returns c =
     let a = c.args in
-    all-cleared (reaches_by a.rule) (total (goal.at.returns c).Start) (length a.seeds0.now / 16) (a.last + 1) a.area.now a.list.now _ _ _ _ _ c.all_levels-found.ensures c.if-found-eq0.false _
+    all_cleared (reaches_by a.rule) (total (goal.at.returns c).Start) (length a.seeds0.now / 16) (a.last + 1) a.area.now a.list.now _ _ _ _ _ c.all_levels-found.ensures c.if-found-eq0.false _
     c.clear.ensures

@@ -6,17 +6,17 @@ use lib.Dec.{ltb}
 use borrow.Author.Tests.{not-true, not-false}
 use Rattle.query.specs.Query.{is_query, prefix_count}
 use Rattle.parents.specs.Parents.{is_last, parent_missing}
-use Rattle.parents.proofs.Parented.{missing-exact}
+use Rattle.parents.proofs.Parented.{missing_exact}
 use Rattle.node_lists.specs.ShareKept.{too_few_nodes}
 use Rattle.node_lists.proofs.query_cause.Goals as goal
 use Rattle.node_lists.proofs.query_cause.Goals.{After-prefix_count, Else-not-is_last, Else-not-is_query}
 
 -- ---- the tests that were passed
-last-query : (c : Else-not-is_last) → is_last c.args.n c.args.last.now ≡ true
-last-query c = sym c.is_last.ensures ∙ not-false _ c.if-not-is_last.false-raw
+last_query_lem : (c : Else-not-is_last) → is_last c.args.n c.args.last.now ≡ true
+last_query_lem c = sym c.is_last.ensures ∙ not-false _ c.if-not-is_last.false-raw
 
-new-query : (c : Else-not-is_query) → is_query c.args.n c.args.query.now ≡ true
-new-query c = sym c.is_query.ensures ∙ not-false _ c.if-not-is_query.false-raw
+new_query : (c : Else-not-is_query) → is_query c.args.n c.args.query.now ≡ true
+new_query c = sym c.is_query.ensures ∙ not-false _ c.if-not-is_query.false-raw
 
 -- what the test of the nodes told, and the search for parents
 few : (c : After-prefix_count) → let a = c.args in
@@ -27,7 +27,7 @@ missing : (c : After-prefix_count) → let a = c.args in
     c.parent_missing-missing.result ≡ parent_missing a.last.now a.query.now
 missing c =
     let a = c.args in
-    c.parent_missing-missing.ensures ∙ missing-exact a.n a.last.now a.query.now (sym c.is_last.ensures ∙ not-false _ c.if-not-is_last.false-raw) (sym c.is_query.ensures ∙ not-false _ c.if-not-is_query.false-raw)
+    c.parent_missing-missing.ensures ∙ missing_exact a.n a.last.now a.query.now (sym c.is_last.ensures ∙ not-false _ c.if-not-is_last.false-raw) (sym c.is_query.ensures ∙ not-false _ c.if-not-is_query.false-raw)
 
 -- ---- the returns
 pub returns-then-not-is_last : goal.returns-then-not-is_last
@@ -40,20 +40,20 @@ pub returns-then-not-is_query : goal.returns-then-not-is_query
 returns-then-not-is_query c =
     let a = c.args in
     let h : is_query a.n a.query.now ≡ false = sym c.is_query.ensures ∙ not-true _ c.if-not-is_query.true-raw in
-    rw (last-query (goal.at.returns-then-not-is_query c).Else-not-is_last, h)
+    rw (last_query_lem (goal.at.returns-then-not-is_query c).Else-not-is_last, h)
 
 pub returns-then-few : goal.returns-then-few
 returns-then-few c =
     let a = c.args in
     let h : too_few_nodes a.reports a.last.now a.query.now a.count ≡ true = sym (few (goal.at.returns-then-few c).After-prefix_count) ∙ c.if-few.true in
-    rw (last-query (goal.at.returns-then-few c).Else-not-is_last, new-query (goal.at.returns-then-few c).Else-not-is_query, h)
+    rw (last_query_lem (goal.at.returns-then-few c).Else-not-is_last, new_query (goal.at.returns-then-few c).Else-not-is_query, h)
 
 pub returns-then-missing : goal.returns-then-missing
 returns-then-missing c =
     let a = c.args in
     let g : too_few_nodes a.reports a.last.now a.query.now a.count ≡ false = sym (few (goal.at.returns-then-missing c).After-prefix_count) ∙ c.if-few.false in
     let h : parent_missing a.last.now a.query.now ≡ true = sym (missing (goal.at.returns-then-missing c).After-prefix_count) ∙ c.if-missing.true in
-    rw (last-query (goal.at.returns-then-missing c).Else-not-is_last, new-query (goal.at.returns-then-missing c).Else-not-is_query, g, h)
+    rw (last_query_lem (goal.at.returns-then-missing c).Else-not-is_last, new_query (goal.at.returns-then-missing c).Else-not-is_query, g, h)
 
 pub returns-then-short : goal.returns-then-short
 returns-then-short c =
@@ -61,7 +61,7 @@ returns-then-short c =
     let g : too_few_nodes a.reports a.last.now a.query.now a.count ≡ false = sym (few (goal.at.returns-then-short c).After-prefix_count) ∙ c.if-few.false in
     let i : parent_missing a.last.now a.query.now ≡ false = sym (missing (goal.at.returns-then-short c).After-prefix_count) ∙ c.if-missing.false in
     let h : ltb a.room (8 * prefix_count a.query.now) ≡ true = ap (λ (m : ℕ). ltb a.room (8 * m)) (sym c.prefix_count.ensures.0) ∙ c.if-short.true-raw in
-    rw (last-query (goal.at.returns-then-short c).Else-not-is_last, new-query (goal.at.returns-then-short c).Else-not-is_query, g, i, h)
+    rw (last_query_lem (goal.at.returns-then-short c).Else-not-is_last, new_query (goal.at.returns-then-short c).Else-not-is_query, g, i, h)
 
 pub returns : goal.returns
 returns c =
@@ -69,4 +69,4 @@ returns c =
     let g : too_few_nodes a.reports a.last.now a.query.now a.count ≡ false = sym (few (goal.at.returns c).After-prefix_count) ∙ c.if-few.false in
     let i : parent_missing a.last.now a.query.now ≡ false = sym (missing (goal.at.returns c).After-prefix_count) ∙ c.if-missing.false in
     let h : ltb a.room (8 * prefix_count a.query.now) ≡ false = ap (λ (m : ℕ). ltb a.room (8 * m)) (sym c.prefix_count.ensures.0) ∙ c.if-short.false-raw in
-    rw (last-query (goal.at.returns c).Else-not-is_last, new-query (goal.at.returns c).Else-not-is_query, g, i, h)
+    rw (last_query_lem (goal.at.returns c).Else-not-is_last, new_query (goal.at.returns c).Else-not-is_query, g, i, h)

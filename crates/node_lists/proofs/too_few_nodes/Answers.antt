@@ -8,7 +8,7 @@ use mathlib.Core.List.{List}
 use lib.Dec.{ltb}
 use borrow.Author.Tests.{lt-ltb, le-ltb}
 use Rattle.parents.specs.Lookup.{last_count}
-use Rattle.parents.proofs.Last.{last-count, prefixes-length}
+use Rattle.parents.proofs.Last.{last_count_lem, prefixes_length}
 use Rattle.query.specs.Query.{prefix_count}
 use Rattle.node_lists.specs.ShareKept.{too_few_nodes}
 use Rattle.node_lists.proofs.too_few_nodes.Goals as goal
@@ -20,13 +20,13 @@ small r m a b = let f : r ≤ 65536 = omega arith in let g : m ≤ 4294967296 = 
 -- the tests, by the counts that the queries tell
 module _ (reports : ℕ) (last query : List ℕ) (count : ℕ) where
   counted : too_few_nodes reports last query count ≡ (ltb count (reports * last_count last) || ltb count (reports * prefix_count query))
-  counted = rw (last-count last, prefixes-length query)
+  counted = rw (last_count_lem last, prefixes_length query)
 
-  of-last : count < reports * last_count last → true ≡ too_few_nodes reports last query count
-  of-last h = sym (counted ∙ rw (lt-ltb count (reports * last_count last) h))
+  of_last : count < reports * last_count last → true ≡ too_few_nodes reports last query count
+  of_last h = sym (counted ∙ rw (lt-ltb count (reports * last_count last) h))
 
-  of-new : reports * last_count last ≤ count → ltb count (reports * prefix_count query) ≡ too_few_nodes reports last query count
-  of-new h = sym (counted ∙ rw (le-ltb count (reports * last_count last) h))
+  of_new : reports * last_count last ≤ count → ltb count (reports * prefix_count query) ≡ too_few_nodes reports last query count
+  of_new h = sym (counted ∙ rw (le-ltb count (reports * last_count last) h))
 
 pub overflow_mul-reports : goal.overflow_mul-reports
 overflow_mul-reports c =
@@ -35,7 +35,7 @@ overflow_mul-reports c =
 pub returns-then-count-reports : goal.returns-then-count-reports
 returns-then-count-reports c =
     let a = c.args in
-    of-last a.reports a.last.now a.query.now a.count (rw (← c.last_count.ensures.0) c.if-count-reports.true)
+    of_last a.reports a.last.now a.query.now a.count (rw (← c.last_count.ensures.0) c.if-count-reports.true)
 
 pub overflow_mul-result : goal.overflow_mul-result
 overflow_mul-result c =
@@ -45,4 +45,4 @@ pub returns : goal.returns
 returns c =
     let a = c.args in
     ap (λ (m : ℕ). ltb a.count (a.reports * m)) c.prefix_count.ensures.0
-    ∙ of-new a.reports a.last.now a.query.now a.count (rw (← c.last_count.ensures.0) c.if-count-reports.false)
+    ∙ of_new a.reports a.last.now a.query.now a.count (rw (← c.last_count.ensures.0) c.if-count-reports.false)

@@ -4,7 +4,7 @@ use native.Mathlib.Omega.{arith}
 use lib.ListN.{length}
 use Rattle.numbers.specs.Numbers.{from_big}
 use Rattle.places.proofs.Inside.{inside, outside}
-use Rattle.numbers.proofs.Straight.{big-outside, window-reads}
+use Rattle.numbers.proofs.Straight.{big_outside, window_reads}
 use Rattle.numbers.proofs.read_be2.Goals as goal
 use Rattle.numbers.proofs.read_be2.Goals.{Else-not-within}
 
@@ -15,7 +15,7 @@ room c = inside _ _ _ _ c.within.ensures c.if-not-within.false-raw
 pub returns-then-not-within : goal.returns-then-not-within
 returns-then-not-within c =
     let a = c.args in
-    (big-outside 2 a.at a.s.now (outside _ _ _ _ c.within.ensures c.if-not-within.true-raw), omega arith)
+    (big_outside 2 a.at a.s.now (outside _ _ _ _ c.within.ensures c.if-not-within.true-raw), omega arith)
 
 pub bounds-s-at : goal.bounds-s-at
 bounds-s-at c = omega (arith, room (goal.at.bounds-s-at c).Else-not-within)
@@ -30,4 +30,4 @@ pub returns : goal.returns
 unfolding from_big
 returns c =
     let a = c.args in
-    (rw (window-reads a.s.now a.at 1 (omega (arith, room (goal.at.returns c).Else-not-within))) (omega arith), omega arith)
+    (rw (window_reads a.s.now a.at 1 (omega (arith, room (goal.at.returns c).Else-not-within))) (omega arith), omega arith)

@@ -3,7 +3,7 @@ use Prim.Native.Nat.{◌+◌, ◌≤◌}
 use native.Mathlib.Omega.{arith}
 use lib.ListN.{length}
 use Rattle.places.proofs.Inside.{inside, outside}
-use Rattle.numbers.proofs.Straight.{big-outside, big-halves}
+use Rattle.numbers.proofs.Straight.{big_outside, big_halves}
 use Rattle.numbers.proofs.read_be4.Goals as goal
 use Rattle.numbers.proofs.read_be4.Goals.{Else-not-within}
 
@@ -14,7 +14,7 @@ room c = inside _ _ _ _ c.within.ensures c.if-not-within.false-raw
 pub returns-then-not-within : goal.returns-then-not-within
 returns-then-not-within c =
     let a = c.args in
-    (big-outside 4 a.at a.s.now (outside _ _ _ _ c.within.ensures c.if-not-within.true-raw), omega arith)
+    (big_outside 4 a.at a.s.now (outside _ _ _ _ c.within.ensures c.if-not-within.true-raw), omega arith)
 
 pub overflow_add-at : goal.overflow_add-at
 overflow_add-at c = omega (arith, room (goal.at.overflow_add-at c).Else-not-within)
@@ -22,4 +22,4 @@ overflow_add-at c = omega (arith, room (goal.at.overflow_add-at c).Else-not-with
 pub returns : goal.returns
 returns c =
     let a = c.args in
-    (big-halves 2 a.at a.s.now (room (goal.at.returns c).Else-not-within) _ _ c.read_be2-high.ensures.0 c.read_be2-low.ensures.0, omega arith)
+    (big_halves 2 a.at a.s.now (room (goal.at.returns c).Else-not-within) _ _ c.read_be2-high.ensures.0 c.read_be2-low.ensures.0, omega arith)

@@ -3,7 +3,7 @@ use Prim.Native.Nat.{◌+◌, ◌≤◌}
 use native.Mathlib.Omega.{arith}
 use lib.ListN.{length}
 use Rattle.places.proofs.Inside.{inside, outside}
-use Rattle.numbers.proofs.Straight.{little-outside, little-halves}
+use Rattle.numbers.proofs.Straight.{little_outside, little_halves}
 use Rattle.numbers.proofs.read_le8.Goals as goal
 use Rattle.numbers.proofs.read_le8.Goals.{Else-not-within}
 
@@ -14,7 +14,7 @@ room c = inside _ _ _ _ c.within.ensures c.if-not-within.false-raw
 pub returns-then-not-within : goal.returns-then-not-within
 returns-then-not-within c =
     let a = c.args in
-    little-outside 8 a.at a.s.now (outside _ _ _ _ c.within.ensures c.if-not-within.true-raw)
+    little_outside 8 a.at a.s.now (outside _ _ _ _ c.within.ensures c.if-not-within.true-raw)
 
 pub le4-low-requires : goal.le4-low-requires
 le4-low-requires c = omega (arith, room c)
@@ -28,4 +28,4 @@ le4-high-requires c = omega (arith, room (goal.at.le4-high-requires c).Else-not-
 pub returns : goal.returns
 returns c =
     let a = c.args in
-    little-halves 4 a.at a.s.now (room (goal.at.returns c).Else-not-within) _ _ c.le4-low.ensures.0 c.le4-high.ensures.0
+    little_halves 4 a.at a.s.now (room (goal.at.returns c).Else-not-within) _ _ c.le4-low.ensures.0 c.le4-high.ensures.0

@@ -5,7 +5,7 @@ use native.Mathlib.Omega.{arith}
 use mathlib.Core.Path.{sym}
 use lib.ListN.{length, length-set}
 use Rattle.numbers.specs.Numbers.{big}
-use Rattle.places.proofs.Places.{put_at-outside}
+use Rattle.places.proofs.Places.{put_at_outside}
 use Rattle.places.proofs.Inside.{inside, outside}
 use Rattle.numbers.proofs.Straight.{stored}
 use Rattle.numbers.proofs.write_be2.Goals as goal
@@ -19,7 +19,7 @@ pub returns-then-not-within : goal.returns-then-not-within
 unfolding big
 returns-then-not-within c =
     let a = c.args in
-    sym (put_at-outside a.out.now a.at (big 2 a.x) (outside _ _ _ _ c.within.ensures c.if-not-within.true-raw))
+    sym (put_at_outside a.out.now a.at (big 2 a.x) (outside _ _ _ _ c.within.ensures c.if-not-within.true-raw))
 
 pub bounds-out-at : goal.bounds-out-at
 bounds-out-at c = omega (arith, room c)

@@ -4,9 +4,9 @@ use native.Mathlib.Omega.{arith}
 use mathlib.Core.Path.{sym}
 use lib.ListN.{length}
 use Rattle.numbers.specs.Numbers.{big}
-use Rattle.places.proofs.Places.{put_at-outside}
+use Rattle.places.proofs.Places.{put_at_outside}
 use Rattle.places.proofs.Inside.{inside, outside}
-use Rattle.numbers.proofs.Straight.{put-big-halves}
+use Rattle.numbers.proofs.Straight.{put_big_halves}
 use Rattle.numbers.proofs.write_be8.Goals as goal
 use Rattle.numbers.proofs.write_be8.Goals.{Else-not-within}
 
@@ -18,7 +18,7 @@ pub returns-then-not-within : goal.returns-then-not-within
 unfolding big
 returns-then-not-within c =
     let a = c.args in
-    sym (put_at-outside a.out.now a.at (big 8 a.x) (outside _ _ _ _ c.within.ensures c.if-not-within.true-raw))
+    sym (put_at_outside a.out.now a.at (big 8 a.x) (outside _ _ _ _ c.within.ensures c.if-not-within.true-raw))
 
 pub overflow_add-at : goal.overflow_add-at
 overflow_add-at c = omega (arith, room (goal.at.overflow_add-at c).Else-not-within)
@@ -27,4 +27,4 @@ pub returns : goal.returns
 returns c =
     let a = c.args in
     let first = c.write_be4 in
-    put-big-halves 4 a.at a.out.now (room (goal.at.returns c).Else-not-within) _ _ a.x first.ensures c.write_be4-2.ensures
+    put_big_halves 4 a.at a.out.now (room (goal.at.returns c).Else-not-within) _ _ a.x first.ensures c.write_be4-2.ensures

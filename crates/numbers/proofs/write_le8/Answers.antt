@@ -4,9 +4,9 @@ use native.Mathlib.Omega.{arith}
 use mathlib.Core.Path.{sym}
 use lib.ListN.{length}
 use Rattle.numbers.specs.Numbers.{little}
-use Rattle.places.proofs.Places.{put_at-outside}
+use Rattle.places.proofs.Places.{put_at_outside}
 use Rattle.places.proofs.Inside.{inside, outside}
-use Rattle.numbers.proofs.Straight.{put-little-halves}
+use Rattle.numbers.proofs.Straight.{put_little_halves}
 use Rattle.numbers.proofs.write_le8.Goals as goal
 use Rattle.numbers.proofs.write_le8.Goals.{Else-not-within}
 
@@ -18,7 +18,7 @@ pub returns-then-not-within : goal.returns-then-not-within
 unfolding little
 returns-then-not-within c =
     let a = c.args in
-    sym (put_at-outside a.out.now a.at (little 8 a.x) (outside _ _ _ _ c.within.ensures c.if-not-within.true-raw))
+    sym (put_at_outside a.out.now a.at (little 8 a.x) (outside _ _ _ _ c.within.ensures c.if-not-within.true-raw))
 
 pub put_le4-requires : goal.put_le4-requires
 put_le4-requires c = omega (arith, room (goal.at.put_le4-requires c).Else-not-within)
@@ -33,4 +33,4 @@ pub returns : goal.returns
 returns c =
     let a = c.args in
     let first = c.put_le4 in
-    put-little-halves 4 a.at a.out.now (room (goal.at.returns c).Else-not-within) _ _ a.x first.ensures c.put_le4-2.ensures
+    put_little_halves 4 a.at a.out.now (room (goal.at.returns c).Else-not-within) _ _ a.x first.ensures c.put_le4-2.ensures

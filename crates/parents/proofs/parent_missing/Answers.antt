@@ -2,13 +2,13 @@
 use native.Mathlib.Omega.{arith}
 use native.Mathlib.Decide.{dec_lt}
 use mathlib.Core.Path.{◌≡◌, sym, ap, ◌∙◌}
-use Rattle.parents.proofs.Unparented.{has, other-bits, all_have, one-lacks, found-has, missed-has}
+use Rattle.parents.proofs.Unparented.{has, other_bits, all_have, one_lacks, found_has, missed_has}
 use Rattle.parents.proofs.parent_missing.Goals as goal
 
 pub returns-then-prefix_length-k : goal.returns-then-prefix_length-k
 returns-then-prefix_length-k c =
     let a = c.args in
-    sym (other-bits a.last.now a.query.now c.prefix_length.result c.last_length-k.result c.prefix_length.ensures.0 c.last_length-k.ensures.0
+    sym (other_bits a.last.now a.query.now c.prefix_length.result c.last_length-k.result c.prefix_length.ensures.0 c.last_length-k.ensures.0
     c.if-prefix_length-k.true)
 
 pub loop-j-init : goal.loop-j-init
@@ -17,9 +17,9 @@ loop-j-init c = (omega arith, λ i h. absurd (omega arith))
 pub returns-then-m-hint : goal.returns-then-m-hint
 returns-then-m-hint c =
     let a = c.args in
-    sym (one-lacks a.last.now a.query.now c.prefix_length.result c.last_length-k.result c.prefix_length.ensures.0 c.last_length-k.ensures.0
+    sym (one_lacks a.last.now a.query.now c.prefix_length.result c.last_length-k.result c.prefix_length.ensures.0 c.last_length-k.ensures.0
     c.if-prefix_length-k.false c.loop-j.j (omega arith)
-    (missed-has a.last.now a.query.now c.parent_place-hint.result c.last_length-k.result c.last_count-m.result c.loop-j.hint c.loop-j.j
+    (missed_has a.last.now a.query.now c.parent_place-hint.result c.last_length-k.result c.last_count-m.result c.loop-j.hint c.loop-j.j
     c.prefix_at.result.now c.last_length-k.ensures.0 c.last_count-m.ensures.0 c.prefix_at.ensures c.parent_place-hint.ensures
     c.if-m-hint.true))
 
@@ -33,7 +33,7 @@ loop-j-preserved c =
             | no u ↦
                 let z : c.loop-j.j ≡ i = omega arith in
                 ap (has a.last.now a.query.now) (sym z)
-                ∙ found-has a.last.now a.query.now c.parent_place-hint.result c.last_length-k.result c.last_count-m.result c.loop-j.hint c.loop-j.j
+                ∙ found_has a.last.now a.query.now c.parent_place-hint.result c.last_length-k.result c.last_count-m.result c.loop-j.hint c.loop-j.j
                 c.prefix_at.result.now c.last_length-k.ensures.0 c.last_count-m.ensures.0 c.prefix_at.ensures c.parent_place-hint.ensures
                 c.if-m-hint.false
           ],

@@ -3,7 +3,7 @@ use Prim.Native.Nat.{suc, min}
 use native.Mathlib.Omega.{arith}
 use mathlib.Core.Path.{◌≡◌, sym, ap, ◌∙◌}
 use Rattle.parents.specs.Lookup.{is_parent, looked_up}
-use Rattle.parents.proofs.Looking.{looked-near-up, looked-far-up, looked-near-down, looked-far-down}
+use Rattle.parents.proofs.Looking.{looked_near_up, looked_far_up, looked_near_down, looked_far_down}
 use Rattle.parents.proofs.parent_place.Goals as goal
 use Rattle.parents.proofs.parent_place.Goals.{else-hint-m, then-hint-m}
 
@@ -11,14 +11,14 @@ pub returns-then-near-m : goal.returns-then-near-m
 returns-then-near-m c =
     let a = c.args in
     let f = is_parent a.last.now a.child.now a.k in
-    looked-near-up f a.m a.hint c.up_from-near.result c.up_from-near.ensures c.if-near-m.true
+    looked_near_up f a.m a.hint c.up_from-near.result c.up_from-near.ensures c.if-near-m.true
     ∙ ap (λ up. looked_up up f a.m a.hint) (sym c.if-up.true)
 
 pub returns-then-up : goal.returns-then-up
 returns-then-up c =
     let a = c.args in
     let f = is_parent a.last.now a.child.now a.k in
-    looked-far-up f a.m a.hint c.up_from-near.result c.up_from.result c.up_from-near.ensures c.if-near-m.false
+    looked_far_up f a.m a.hint c.up_from-near.result c.up_from.result c.up_from-near.ensures c.if-near-m.false
     c.up_from.ensures
     ∙ ap (λ up. looked_up up f a.m a.hint) (sym c.if-up.true)
 
@@ -27,7 +27,7 @@ returns-then-near-m-2 c =
     let a = c.args in
     let f = is_parent a.last.now a.child.now a.k in
     let below : c.if-hint-m.below ≡ min (suc a.hint) a.m = elim c.if-hint-m.branch [ then-hint-m w ↦ omega arith | else-hint-m w ↦ omega arith ] in
-    looked-near-down f a.m a.hint c.down_from-near.result c.if-hint-m.below below c.down_from-near.ensures c.if-near-m-2.true
+    looked_near_down f a.m a.hint c.down_from-near.result c.if-hint-m.below below c.down_from-near.ensures c.if-near-m-2.true
     ∙ ap (λ up. looked_up up f a.m a.hint) (sym c.if-up.false)
 
 pub returns : goal.returns
@@ -35,6 +35,6 @@ returns c =
     let a = c.args in
     let f = is_parent a.last.now a.child.now a.k in
     let below : c.if-hint-m.below ≡ min (suc a.hint) a.m = elim c.if-hint-m.branch [ then-hint-m w ↦ omega arith | else-hint-m w ↦ omega arith ] in
-    looked-far-down f a.m a.hint c.down_from-near.result c.down_from.result c.if-hint-m.below below c.down_from-near.ensures c.if-near-m-2.false
+    looked_far_down f a.m a.hint c.down_from-near.result c.down_from.result c.if-hint-m.below below c.down_from-near.ensures c.if-near-m-2.false
     c.down_from.ensures
     ∙ ap (λ up. looked_up up f a.m a.hint) (sym c.if-up.false)

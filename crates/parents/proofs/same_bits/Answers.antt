@@ -1,13 +1,13 @@
 -- `parents::same_bits` meets its contract. The highest bits of the last byte decide first, and then the whole bytes before it.
 use native.Mathlib.Omega.{arith}
 use mathlib.Core.Path.{sym, ◌∙◌}
-use Rattle.parents.proofs.Agreeing.{part-differs, part_same}
+use Rattle.parents.proofs.Agreeing.{part_differs, part_same}
 use Rattle.parents.proofs.same_bits.Goals as goal
 
 pub returns-then-wide-past : goal.returns-then-wide-past
 returns-then-wide-past c =
     let a = c.args in
-    sym (part-differs a.k a.a.now a.b.now
+    sym (part_differs a.k a.a.now a.b.now
     (λ i. omega (arith, c.shared_slice_known-1.given i)) (λ i. omega (arith, c.shared_slice_known-2-1.given i))
     c.wide.result c.wide-2.result
     (c.wide.ensures.0 ∙ c.byte_at.ensures) (c.wide-2.ensures.0 ∙ c.byte_at-2.ensures)

@@ -6,7 +6,7 @@ use native.Mathlib.Decide.{dec_lt}
 use borrow.Author.Tests.{eq-eqb, ne_eqb}
 use lib.ListN.{get_or}
 use lib.Dec.{eqb}
-use Rattle.point.proofs.Joined.{every_true, every-false}
+use Rattle.point.proofs.Joined.{every_true, every_false}
 use Rattle.parents.proofs.same_bytes.Goals as goal
 
 pub loop-from-init : goal.loop-from-init
@@ -16,7 +16,7 @@ pub returns-then-byte_at : goal.returns-then-byte_at
 returns-then-byte_at c =
     let a = c.args in
     let i = c.loop-from.from - 1 in
-    sym (every-false a.w (λ i. eqb (get_or a.a.now i 0) (get_or a.b.now i 0)) i (omega arith)
+    sym (every_false a.w (λ i. eqb (get_or a.a.now i 0) (get_or a.b.now i 0)) i (omega arith)
     (ne_eqb _ _ (λ e. c.if-byte_at.true (c.byte_at.ensures ∙ e ∙ sym c.byte_at-in-loop-from.ensures))))
 
 pub loop-from-preserved : goal.loop-from-preserved

@@ -5,7 +5,7 @@ use native.Mathlib.Omega.{arith}
 use mathlib.Core.Path.{◌≡◌, refl, sym, ◌∙◌}
 use lib.ListN.{length, length-set}
 use lib.Seq.{paste-zero, paste-suc, take-length}
-use Rattle.places.proofs.Places.{put_at-inside, put_at-outside}
+use Rattle.places.proofs.Places.{put_at_inside, put_at_outside}
 use Rattle.places.proofs.Inside.{inside, outside}
 use Rattle.places.proofs.copy.Goals as goal
 use Rattle.places.proofs.copy.Goals.{Else-not-within}
@@ -17,7 +17,7 @@ room c = inside _ _ _ _ c.within.ensures c.if-not-within.false-raw
 pub returns-then-not-within : goal.returns-then-not-within
 returns-then-not-within c =
     let a = c.args in
-    sym (put_at-outside a.out.now a.at a.src.now (outside _ _ _ _ c.within.ensures c.if-not-within.true-raw))
+    sym (put_at_outside a.out.now a.at a.src.now (outside _ _ _ _ c.within.ensures c.if-not-within.true-raw))
 
 pub loop-i-init : goal.loop-i-init
 loop-i-init c =
@@ -44,4 +44,4 @@ returns c =
     let a = c.args in
     let e : c.loop-i.i ≡ length a.src.now = omega arith in
     c.loop-i.invariant.2
-    ∙ rw (e, take-length a.src.now) (sym (put_at-inside a.out.now a.at a.src.now (omega (arith, room (goal.at.returns c).Else-not-within))))
+    ∙ rw (e, take-length a.src.now) (sym (put_at_inside a.out.now a.at a.src.now (omega (arith, room (goal.at.returns c).Else-not-within))))

@@ -4,7 +4,7 @@ use native.Mathlib.Omega.{arith}
 use mathlib.Core.Path.{refl, sym, ◌∙◌}
 use borrow.Author.Tests.{not-true, not-false}
 use lib.ListN.{length, drop}
-use Rattle.query.proofs.Parts.{peel, spares-rest, ascending-few, ascending-no, ascending-yes}
+use Rattle.query.proofs.Parts.{peel, spares_rest, ascending_few, ascending_no, ascending_yes}
 use Rattle.query.proofs.in_order.Goals as goal
 use Rattle.query.proofs.in_order.Goals.{In-loop-left}
 
@@ -27,7 +27,7 @@ returns-then-not-before_next c =
     let a = c.args in
     let l = c.loop-left in
     sym (l.invariant.2
-    ∙ ascending-no a.len a.w l.at l.left a.q.now c.requires.0 (λ i. omega (arith, c.shared_slice_known-1.given i))
+    ∙ ascending_no a.len a.w l.at l.left a.q.now c.requires.0 (λ i. omega (arith, c.shared_slice_known-1.given i))
     (omega arith) l.invariant.0 l.invariant.1 c.before_next.result c.before_next.ensures (not-true _ c.if-not-before_next.true-raw))
 
 pub overflow_add-at : goal.overflow_add-at
@@ -39,9 +39,9 @@ loop-left-preserved c =
     let l = c.loop-left in
     let h : 0 < l.left = omega arith in (
       omega (arith, peel l.left a.w h),
-      spares-rest a.len a.w l.at l.left a.q.now h l.invariant.1,
+      spares_rest a.len a.w l.at l.left a.q.now h l.invariant.1,
       l.invariant.2
-          ∙ ascending-yes a.len a.w l.at l.left a.q.now c.requires.0 (λ i. omega (arith, c.shared_slice_known-1.given i))
+          ∙ ascending_yes a.len a.w l.at l.left a.q.now c.requires.0 (λ i. omega (arith, c.shared_slice_known-1.given i))
           (omega arith) l.invariant.0 l.invariant.1 c.before_next.result c.before_next.ensures (not-false _ c.if-not-before_next.false-raw),
     )
 
@@ -49,4 +49,4 @@ pub returns : goal.returns
 returns c =
     let a = c.args in
     let l = c.loop-left in
-    sym (l.invariant.2 ∙ ascending-few a.len a.w l.left (drop l.at a.q.now) (omega arith))
+    sym (l.invariant.2 ∙ ascending_few a.len a.w l.left (drop l.at a.q.now) (omega arith))

@@ -3,7 +3,7 @@ use native.Mathlib.Omega.{arith}
 use Prim.Native.Nat.{◌*◌, ◌≤◌}
 use mathlib.Core.Path.{sym, ◌∙◌}
 use borrow.Author.Tests.{not-true, not-false}
-use Rattle.query.proofs.Check.{few_bytes, Left, too_long, no-prefix, too_many, counted, other_length, spare-set, order-left}
+use Rattle.query.proofs.Check.{few_bytes, Left, too_long, no_prefix, too_many, counted, other_length, spare_set, order_left}
 use Rattle.query.proofs.is_query.Goals as goal
 use Rattle.query.proofs.is_query.Goals.{After-packed_length-w}
 
@@ -34,7 +34,7 @@ returns-then-count-lt1 c =
     let a = c.args in
     let len = c.prefix_length-len in
     let m = c.prefix_count-count in
-    sym (no-prefix a.n len.result m.result a.q.now len.ensures.0 m.ensures.0 (omega arith) (omega arith))
+    sym (no_prefix a.n len.result m.result a.q.now len.ensures.0 m.ensures.0 (omega arith) (omega arith))
 
 pub returns-then-count-gt131070 : goal.returns-then-count-gt131070
 returns-then-count-gt131070 c =
@@ -54,7 +54,7 @@ returns-then-q-count c = sym (other_length (left (goal.at.returns-then-q-count c
 
 pub returns-then-not-spares_zero : goal.returns-then-not-spares_zero
 returns-then-not-spares_zero c =
-    sym (spare-set (left (goal.at.returns-then-not-spares_zero c).After-packed_length-w) (omega arith)
+    sym (spare_set (left (goal.at.returns-then-not-spares_zero c).After-packed_length-w) (omega arith)
     (sym c.spares_zero.ensures ∙ not-true _ c.if-not-spares_zero.true-raw))
 
 pub in_order-requires : goal.in_order-requires
@@ -63,5 +63,5 @@ in_order-requires c = (c.packed_length-w.ensures, omega arith, sym c.spares_zero
 pub returns : goal.returns
 returns c =
     c.in_order.ensures
-    ∙ sym (order-left (left (goal.at.returns c).After-packed_length-w) (omega arith)
+    ∙ sym (order_left (left (goal.at.returns c).After-packed_length-w) (omega arith)
     (sym c.spares_zero.ensures ∙ not-false _ c.if-not-spares_zero.false-raw))

@@ -3,7 +3,7 @@ use native.Mathlib.Omega.{arith}
 use Prim.Native.Nat.{◌+◌, ◌-◌, ◌*◌, ◌≤◌}
 use mathlib.Core.Path.{sym}
 use lib.ListN.{length}
-use Rattle.query.proofs.Place.{part-ends, part-past, prefix-inside, prefix-outside}
+use Rattle.query.proofs.Place.{part_ends, part_past, prefix_inside, prefix_outside}
 use Rattle.query.proofs.prefix_at.Goals as goal
 use Rattle.query.proofs.prefix_at.Goals.{Else-q-w}
 
@@ -14,22 +14,22 @@ room : (c : Else-q-w)
 room c =
     let a = c.args in
     let w = c.packed_length-w.result in
-    omega (arith, part-ends (length a.q.now - 6) w a.i (omega arith) (omega arith))
+    omega (arith, part_ends (length a.q.now - 6) w a.i (omega arith) (omega arith))
 
 pub returns-then-q-lt6 : goal.returns-then-q-lt6
 returns-then-q-lt6 c =
     let a = c.args in
     let len = c.prefix_length in
     let w = c.packed_length-w in
-    sym (prefix-outside a.q.now a.i len.result w.result len.ensures.0 w.ensures (omega arith))
+    sym (prefix_outside a.q.now a.i len.result w.result len.ensures.0 w.ensures (omega arith))
 
 pub returns-then-q-w : goal.returns-then-q-w
 returns-then-q-w c =
     let a = c.args in
     let len = c.prefix_length in
     let w = c.packed_length-w in
-    let past = part-past (length a.q.now - 6) w.result a.i (omega arith) (omega arith) in
-    sym (prefix-outside a.q.now a.i len.result w.result len.ensures.0 w.ensures (omega arith))
+    let past = part_past (length a.q.now - 6) w.result a.i (omega arith) (omega arith) in
+    sym (prefix_outside a.q.now a.i len.result w.result len.ensures.0 w.ensures (omega arith))
 
 pub overflow_mul-at : goal.overflow_mul-at
 overflow_mul-at c = omega (arith, room c)
@@ -48,5 +48,5 @@ returns c =
     let a = c.args in
     let len = c.prefix_length in
     let w = c.packed_length-w in
-    sym (prefix-inside a.q.now a.i len.result w.result len.ensures.0 w.ensures (room (goal.at.returns c).Else-q-w)
+    sym (prefix_inside a.q.now a.i len.result w.result len.ensures.0 w.ensures (room (goal.at.returns c).Else-q-w)
     (6 + a.i * w.result + w.result - (6 + a.i * w.result)) (omega arith))

@@ -4,7 +4,7 @@ use native.Mathlib.Omega.{arith}
 use mathlib.Core.Path.{refl, sym, ◌∙◌}
 use borrow.Author.Tests.{not-true, not-false}
 use lib.ListN.{length, drop}
-use Rattle.query.proofs.Parts.{peel, spares-none, spares-no, spares-yes}
+use Rattle.query.proofs.Parts.{peel, spares_none, spares_no, spares_yes}
 use Rattle.query.proofs.spares_zero.Goals as goal
 use Rattle.query.proofs.spares_zero.Goals.{In-loop-left}
 
@@ -24,7 +24,7 @@ returns-then-not-spare_zero_at c =
     let a = c.args in
     let l = c.loop-left in
     sym (l.invariant.1
-    ∙ spares-no a.len a.w l.at l.left a.q.now (omega arith)
+    ∙ spares_no a.len a.w l.at l.left a.q.now (omega arith)
     c.spare_zero_at.result c.spare_zero_at.ensures (not-true _ c.if-not-spare_zero_at.true-raw))
 
 pub overflow_add-at : goal.overflow_add-at
@@ -36,7 +36,7 @@ loop-left-preserved c =
     let l = c.loop-left in (
       omega (arith, peel l.left a.w (omega arith)),
       l.invariant.1
-          ∙ spares-yes a.len a.w l.at l.left a.q.now (omega arith)
+          ∙ spares_yes a.len a.w l.at l.left a.q.now (omega arith)
           c.spare_zero_at.result c.spare_zero_at.ensures (not-false _ c.if-not-spare_zero_at.false-raw),
     )
 
@@ -44,4 +44,4 @@ pub returns : goal.returns
 returns c =
     let a = c.args in
     let l = c.loop-left in
-    sym (l.invariant.1 ∙ spares-none a.len a.w l.left (drop l.at a.q.now) (omega arith))
+    sym (l.invariant.1 ∙ spares_none a.len a.w l.left (drop l.at a.q.now) (omega arith))

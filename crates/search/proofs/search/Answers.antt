@@ -4,7 +4,7 @@ use native.Mathlib.Omega.{arith}
 use mathlib.Core.Path.{◌≡◌, sym, ◌∙◌}
 use Rattle.calls.specs.Causes.{number_due}
 use Rattle.search.specs.Search.{Lent, lent, lent_causes}
-use Rattle.search.proofs.Closing.{refused, within-bounds, never-unknown, settled}
+use Rattle.search.proofs.Closing.{refused, within_bounds, never_unknown, settled}
 use Rattle.search.proofs.search.Goals as goal
 use Rattle.search.proofs.search.Goals.{After-first_cause-number, Else-number-ne0}
 
@@ -23,18 +23,18 @@ returns-then-number-ne0 c = refused (lend (goal.at.returns-then-number-ne0 c).Af
 
 pub overflow_sub-n : goal.overflow_sub-n
 overflow_sub-n c =
-    omega (arith, (within-bounds (lend (goal.at.overflow_sub-n c).After-first_cause-number) (clear (goal.at.overflow_sub-n c).Else-number-ne0)).0)
+    omega (arith, (within_bounds (lend (goal.at.overflow_sub-n c).After-first_cause-number) (clear (goal.at.overflow_sub-n c).Else-number-ne0)).0)
 
 pub overflow_cast-n : goal.overflow_cast-n
 overflow_cast-n c =
-    omega (arith, within-bounds (lend (goal.at.overflow_cast-n c).After-first_cause-number) (clear (goal.at.overflow_cast-n c).Else-number-ne0))
+    omega (arith, within_bounds (lend (goal.at.overflow_cast-n c).After-first_cause-number) (clear (goal.at.overflow_cast-n c).Else-number-ne0))
 
 pub returns-in-Known : goal.returns-in-Known
 returns-in-Known c =
     let n = c.args.n in
     settled (lend (goal.at.returns-in-Known c).After-first_cause-number) (clear (goal.at.returns-in-Known c).Else-number-ne0) c.in-Known.e (sym c.in-Known.ensures) (n - 1) _ _ _ _ _
-    (omega (arith, (within-bounds (lend (goal.at.returns-in-Known c).After-first_cause-number) (clear (goal.at.returns-in-Known c).Else-number-ne0)).0)) c.run-found.ensures
+    (omega (arith, (within_bounds (lend (goal.at.returns-in-Known c).After-first_cause-number) (clear (goal.at.returns-in-Known c).Else-number-ne0)).0)) c.run-found.ensures
 
 pub returns-in-Unknown : goal.returns-in-Unknown
 returns-in-Unknown c =
-    absurd (never-unknown (lend (goal.at.returns-in-Unknown c).After-first_cause-number) (clear (goal.at.returns-in-Unknown c).Else-number-ne0) (sym c.in-Unknown.ensures))
+    absurd (never_unknown (lend (goal.at.returns-in-Unknown c).After-first_cause-number) (clear (goal.at.returns-in-Unknown c).Else-number-ne0) (sym c.in-Unknown.ensures))

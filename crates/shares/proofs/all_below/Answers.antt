@@ -1,7 +1,7 @@
 -- `shares::all_below` meets its contract. The loop's invariant: what is left decides, and lies within. The measure is how many are left.
 use native.Mathlib.Omega.{arith}
 use mathlib.Core.Path.{refl, sym, ◌∙◌}
-use Rattle.shares.proofs.Numbers.{below-yes, below-no, below_none}
+use Rattle.shares.proofs.Numbers.{below_yes, below_no, below_none}
 use Rattle.shares.proofs.all_below.Goals as goal
 
 pub loop-left-init : goal.loop-left-init
@@ -12,14 +12,14 @@ returns-then-read_le8-ge-P c =
     let s = c.args.share.now in
     let l = c.loop-left in
     let r = c.read_le8 in
-    sym (l.invariant.1 ∙ below-no l.left l.place s (omega arith) (omega arith) r.result r.ensures c.if-read_le8-ge-P.true)
+    sym (l.invariant.1 ∙ below_no l.left l.place s (omega arith) (omega arith) r.result r.ensures c.if-read_le8-ge-P.true)
 
 pub loop-left-preserved : goal.loop-left-preserved
 loop-left-preserved c =
     let s = c.args.share.now in
     let l = c.loop-left in
     let r = c.read_le8 in
-    (omega arith, l.invariant.1 ∙ below-yes l.left l.place s (omega arith) (omega arith) r.result r.ensures c.if-read_le8-ge-P.false)
+    (omega arith, l.invariant.1 ∙ below_yes l.left l.place s (omega arith) (omega arith) r.result r.ensures c.if-read_le8-ge-P.false)
 
 pub returns : goal.returns
 returns c =

@@ -6,7 +6,7 @@ use native.Mathlib.Nat.{min-le_right}
 use mathlib.Core.Path.{ap, ◌∙◌}
 use borrow.Author.Rules.{rules}
 use Rattle.tree.specs.Space.{level_length}
-use Rattle.space.proofs.Levels.{keepable-next, levels-step, levels-none}
+use Rattle.space.proofs.Levels.{keepable_next, levels_step, levels_none}
 use Rattle.space.proofs.levels_length.Goals as goal
 
 pub loop-k-init : goal.loop-k-init
@@ -24,8 +24,8 @@ loop-k-preserved c =
       search rules,
       search rules,
       omega (arith, c.least-kept-in-loop-k.ensures, min-le_right (2 * c.loop-k.kept) w),
-      c.least-kept-in-loop-k.ensures ∙ ap (λ (x : ℕ). min (2 * x) w) same ∙ keepable-next w k,
-      omega (arith, level, levels-step w n k (omega arith), c.loop-k.invariant.4),
+      c.least-kept-in-loop-k.ensures ∙ ap (λ (x : ℕ). min (2 * x) w) same ∙ keepable_next w k,
+      omega (arith, level, levels_step w n k (omega arith), c.loop-k.invariant.4),
       omega arith,
     )
 
@@ -33,4 +33,4 @@ pub returns : goal.returns
 returns c =
     let l = c.loop-k in
     let a = c.args in
-    (omega (arith, l.invariant.4, levels-none a.most a.n l.k (omega arith)), omega arith)
+    (omega (arith, l.invariant.4, levels_none a.most a.n l.k (omega arith)), omega arith)

@@ -4,7 +4,7 @@ use native.Mathlib.Nat.{div-le_self}
 use mathlib.Core.Path.{◌≡◌, sym, ◌∙◌}
 use mathlib.Core.Bool.{false}
 use Rattle.space.specs.SearchSpace.{outside_bounds}
-use Rattle.space.proofs.Levels.{record-parts}
+use Rattle.space.proofs.Levels.{record_parts}
 use Rattle.space.proofs.Within.{within}
 use Rattle.space.proofs.record_space.Goals as goal
 use Rattle.space.proofs.record_space.Goals.{Else-outside_bounds}
@@ -36,4 +36,4 @@ returns c =
     let a = c.args in
     let k = within a.n a.weighted a.t a.reports (clear (goal.at.returns c).Else-outside_bounds) in
     rw (clear (goal.at.returns c).Else-outside_bounds, ← c.fewest_holders.ensures.0)
-    (omega (arith, record-parts a.n c.fewest_holders.result a.reports k.0, c.level_length-first.ensures.0, c.levels_length.ensures.0))
+    (omega (arith, record_parts a.n c.fewest_holders.result a.reports k.0, c.level_length-first.ensures.0, c.levels_length.ensures.0))

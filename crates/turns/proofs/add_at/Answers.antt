@@ -5,16 +5,16 @@ use mathlib.Core.Path.{◌≡◌, sym, ap, ◌∙◌}
 use mathlib.Core.List.{List}
 use lib.ListN.{length}
 use Rattle.places.specs.Places.{window, put_at}
-use Rattle.places.proofs.Places.{put_at-outside}
+use Rattle.places.proofs.Places.{put_at_outside}
 use Rattle.numbers.specs.Numbers.{little, from_little}
-use Rattle.numbers.proofs.Endian.{little-length}
+use Rattle.numbers.proofs.Endian.{little_length}
 use Rattle.group.specs.Modular.{field}
 use Rattle.turns.specs.Turns.{added_at}
 use Rattle.turns.proofs.add_at.Goals as goal
 
 -- a number that would end past the area is not written
 outside : (j v : ℕ) (l : List ℕ) → length l < 8 * j + 8 → put_at l (8 * j) (little 8 v) ≡ l
-outside j v l h = put_at-outside l (8 * j) (little 8 v) (rw (little-length 8 v) (omega arith))
+outside j v l h = put_at_outside l (8 * j) (little 8 v) (rw (little_length 8 v) (omega arith))
 
 pub returns-then-out-j : goal.returns-then-out-j
 unfolding added_at

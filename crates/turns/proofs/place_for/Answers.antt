@@ -4,7 +4,7 @@ use Prim.Native.Nat.{◌+◌, ◌*◌, ◌/◌, ◌<◌}
 use mathlib.Core.Path.{refl, ◌∙◌}
 use lib.Dec.{ltb}
 use Rattle.parents.specs.Lookup.{is_parent}
-use Rattle.turns.proofs.Placing.{looked-most, count_small, count-some, target_below, from-small, placed_end, placed-none, placed}
+use Rattle.turns.proofs.Placing.{looked_most, count_small, count_some, target_below, from_small, placed_end, placed_none, placed}
 use Rattle.turns.proofs.place_for.Goals as goal
 use Rattle.turns.proofs.place_for.Goals.{After-parent_place-parent}
 
@@ -18,10 +18,10 @@ from c =
     let some = c.if-count-eq0.false in
     let target = c.target_of-target in
     let parents = is_parent a.last.now c.prefix_at-child.result.now t.level in
-    from-small t.reports t.after t.before target.result c.parent_place-parent.result (count-some t.reports t.after some)
+    from_small t.reports t.after t.before target.result c.parent_place-parent.result (count_some t.reports t.after some)
     (target_below (t.reports * t.after) a.left (omega (arith, c.if-left-eq0.false)) some target.result target.ensures)
     (omega (arith, c.well_formed.0)) (omega (arith, c.well_formed.0))
-    (looked-most parents (ltb (t.reports * t.after) a.left) t.before a.hint c.parent_place-parent.result c.parent_place-parent.ensures)
+    (looked_most parents (ltb (t.reports * t.after) a.left) t.before a.hint c.parent_place-parent.result c.parent_place-parent.ensures)
 
 pub returns-then-left-eq0 : goal.returns-then-left-eq0
 returns-then-left-eq0 c =
@@ -37,7 +37,7 @@ pub returns-then-count-eq0 : goal.returns-then-count-eq0
 returns-then-count-eq0 c =
     let a = c.args in
     c.nowhere-then-count-eq0.ensures
-    ∙ placed-none a.task a.last.now a.query.now a.left a.hint c.if-left-eq0.false c.if-count-eq0.true
+    ∙ placed_none a.task a.last.now a.query.now a.left a.hint c.if-left-eq0.false c.if-count-eq0.true
 
 pub target_of-target-requires : goal.target_of-target-requires
 target_of-target-requires c =
@@ -47,12 +47,12 @@ target_of-target-requires c =
 pub nonzero_div-report : goal.nonzero_div-report
 nonzero_div-report c =
     let t = c.args.task in
-    count-some t.reports t.after c.if-count-eq0.false
+    count_some t.reports t.after c.if-count-eq0.false
 
 pub nonzero_rem-prefix : goal.nonzero_rem-prefix
 nonzero_rem-prefix c =
     let t = c.args.task in
-    count-some t.reports t.after c.if-count-eq0.false
+    count_some t.reports t.after c.if-count-eq0.false
 
 pub overflow_mul-from : goal.overflow_mul-from
 overflow_mul-from c = omega (arith, from c)

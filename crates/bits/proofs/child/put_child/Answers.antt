@@ -4,9 +4,9 @@ use Prim.Native.Nat.{◌+◌, ◌≤◌}
 use mathlib.Core.Path.{sym, ap}
 use lib.ListN.{length, take}
 use lib.Seq.{length-take-le}
-use Rattle.places.proofs.Places.{put_at-length}
+use Rattle.places.proofs.Places.{put_at_length}
 use Rattle.places.proofs.Inside.{inside, outside}
-use Rattle.bits.proofs.Longer.{child-outside, child-inside}
+use Rattle.bits.proofs.Longer.{child_outside, child_inside}
 use Rattle.bits.proofs.child.put_child.Goals as goal
 use Rattle.bits.proofs.child.put_child.Goals.{Else-not-within}
 
@@ -19,7 +19,7 @@ room c = inside _ _ _ _ c.within.ensures c.if-not-within.false-raw
 pub returns-then-not-within : goal.returns-then-not-within
 returns-then-not-within c =
     let a = c.args in
-    child-outside a.whole a.rest a.prefix.now a.bit (λ i. omega (arith, c.shared_slice_known-1.given i))
+    child_outside a.whole a.rest a.prefix.now a.bit (λ i. omega (arith, c.shared_slice_known-1.given i))
     c.requires.0 (omega arith) a.out.now a.at (outside _ _ _ _ c.within.ensures c.if-not-within.true-raw)
 
 pub slice_bounds-copy-end : goal.slice_bounds-copy-end
@@ -32,11 +32,11 @@ overflow_add-out c = omega (arith, room (goal.at.overflow_add-out c).Else-not-wi
 pub bounds-out-at : goal.bounds-out-at
 bounds-out-at c =
     let a = c.args in
-    omega (arith, room (goal.at.bounds-out-at c).Else-not-within, ap length c.copy.ensures, put_at-length a.out.now a.at (take (a.whole + 1) a.prefix.now))
+    omega (arith, room (goal.at.bounds-out-at c).Else-not-within, ap length c.copy.ensures, put_at_length a.out.now a.at (take (a.whole + 1) a.prefix.now))
 
 pub returns : goal.returns
 returns c =
     let a = c.args in
     let last = c.last_byte-last in
-    child-inside a.whole a.rest a.prefix.now a.bit (λ i. omega (arith, c.shared_slice_known-1.given i))
+    child_inside a.whole a.rest a.prefix.now a.bit (λ i. omega (arith, c.shared_slice_known-1.given i))
     c.requires.0 (omega arith) a.out.now a.at (room (goal.at.returns c).Else-not-within) last.result c.requires.1 _ c.copy.ensures last.ensures

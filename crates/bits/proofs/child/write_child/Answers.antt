@@ -7,7 +7,7 @@ use mathlib.Core.List.{List}
 use Rattle.bits.specs.Strings.{◌▹◌}
 use Rattle.bits.specs.Packing.{pack, unpack}
 use Rattle.places.specs.Places.{put_at}
-use Rattle.bits.proofs.Longer.{unpack-all}
+use Rattle.bits.proofs.Longer.{unpack_all}
 use Rattle.bits.proofs.child.write_child.Goals as goal
 
 -- the same number of bits, the same child
@@ -18,7 +18,7 @@ same_bits d at s b len n out e f = e ∙ rw f
 pub returns-then-prefix-len : goal.returns-then-prefix-len
 returns-then-prefix-len c =
     let a = c.args in
-    let s = unpack-all a.len a.prefix.now (omega arith) in
+    let s = unpack_all a.len a.prefix.now (omega arith) in
     c.put_child_of_all.ensures ∙ rw s
 
 pub returns : goal.returns

@@ -4,7 +4,7 @@ use Prim.Native.Nat.{◌+◌, ◌≤◌, ◌<◌}
 use native.Mathlib.Omega.{arith}
 use lib.ListN.{length}
 use Rattle.kept.specs.Kept.{reaches_by}
-use Rattle.combine.proofs.Numbers.{number-yes, number-no, number-none}
+use Rattle.combine.proofs.Numbers.{number_yes, number_no, number_none}
 use Rattle.combine.proofs.totals.count_kept.Goals as goal
 use Rattle.combine.proofs.totals.count_kept.Goals.{else-is_kept, then-is_kept}
 
@@ -18,8 +18,8 @@ loop-left-preserved c =
     let r : l.place + 8 ≤ length c.args.share1.now = omega (arith, c.requires) in
     let h : 0 < l.left = omega arith in
     let room : l.place + 8 ≤ length c.args.share0.now = omega arith in
-    let yes = number-yes c.args.share0.now c.args.share1.now (reaches_by c.args.rule) l.left l.place h room r k.result k.ensures in
-    let no = number-no c.args.share0.now c.args.share1.now (reaches_by c.args.rule) l.left l.place h room r k.result k.ensures in (
+    let yes = number_yes c.args.share0.now c.args.share1.now (reaches_by c.args.rule) l.left l.place h room r k.result k.ensures in
+    let no = number_no c.args.share0.now c.args.share1.now (reaches_by c.args.rule) l.left l.place h room r k.result k.ensures in (
       omega arith,
       elim c.if-is_kept.branch [ then-is_kept w ↦ omega (arith, yes w.if-is_kept.true) | else-is_kept w ↦ omega (arith, no w.if-is_kept.false) ],
       elim c.if-is_kept.branch [ then-is_kept w ↦ omega arith | else-is_kept w ↦ omega arith ],
@@ -29,4 +29,4 @@ pub returns : goal.returns
 returns c =
     let a = c.args in
     let l = c.loop-left in
-    (omega (arith, number-none a.share0.now a.share1.now (reaches_by a.rule) l.left l.place c.loop-left-test.false), omega arith)
+    (omega (arith, number_none a.share0.now a.share1.now (reaches_by a.rule) l.left l.place c.loop-left-test.false), omega arith)

@@ -6,12 +6,12 @@ use mathlib.Core.List.{List, ◌++◌}
 use lib.ListN.{length, take, drop}
 use Rattle.numbers.specs.Numbers.{from_little}
 use Rattle.bits.specs.Packing.{unpack}
-use Rattle.places.proofs.Places.{Grown, grown-start, grown-room, grown-more}
-use Rattle.query.proofs.Pieces.{next-room, grown-length}
+use Rattle.places.proofs.Places.{Grown, grown_start, grown_room, grown_more}
+use Rattle.query.proofs.Pieces.{next_room, grown_length}
 use Rattle.exam_lines.specs.Lines.{prefix_line}
 use Rattle.exam_answering.specs.Printing.{entry_lines}
-use Rattle.fields.proofs.FieldChain.{all-written}
-use Rattle.exam_answering.proofs.PrintedLines.{entries_none, entries-step}
+use Rattle.fields.proofs.FieldChain.{all_written}
+use Rattle.exam_answering.proofs.PrintedLines.{entries_none, entries_step}
 use Rattle.exam_answering.proofs.printing.write_entries.Goals as goal
 use Rattle.exam_answering.proofs.printing.write_entries.Goals.{In-loop-left}
 
@@ -39,22 +39,22 @@ turn : (i : In-loop-left)
 turn i =
     let a = i.args in
     let l = i.loop-left in
-    rw (← entries-step a.k (width i) l.left l.from l.place a.round.now i.packed_length-w.ensures i.loop-left-test.true) l.invariant.2
+    rw (← entries_step a.k (width i) l.left l.from l.place a.round.now i.packed_length-w.ensures i.loop-left-test.true) l.invariant.2
 
 room : (i : In-loop-left)
     → (i.loop-left.from + width i ≤ length i.args.round.now)
     × (i.loop-left.from + width i + (i.loop-left.left - 1) * width i ≤ length i.args.round.now)
-room i = let l = i.loop-left in next-room l.left (width i) l.from (length i.args.round.now) i.loop-left-test.true l.invariant.0
+room i = let l = i.loop-left in next_room l.left (width i) l.from (length i.args.round.now) i.loop-left-test.true l.invariant.0
 
 -- ---- the needs
 pub loop-left-init : goal.loop-left-init
 loop-left-init c =
-    (rw c.packed_length-w.ensures c.requires.k_in_bounds.0, c.requires.k_in_bounds.1, grown-start c.args.out.now c.args.at _)
+    (rw c.packed_length-w.ensures c.requires.k_in_bounds.0, c.requires.k_in_bounds.1, grown_start c.args.out.now c.args.at _)
 
 pub write_entry-here-requires : goal.write_entry-here-requires
 write_entry-here-requires c =
     let a = c.args in
-    let l = c.loop-left in record { w_value = (c.packed_length-w.ensures, (room (goal.at.write_entry-here-requires c).In-loop-left).0, omega (arith, l.invariant.1, c.loop-left-test.true)); round_in_bounds = grown-room a.out.now a.at l.out l.here (line (goal.at.write_entry-here-requires c).In-loop-left) (others (goal.at.write_entry-here-requires c).In-loop-left) (whole (goal.at.write_entry-here-requires c).In-loop-left) (turn (goal.at.write_entry-here-requires c).In-loop-left) c.requires.round_in_bounds }
+    let l = c.loop-left in record { w_value = (c.packed_length-w.ensures, (room (goal.at.write_entry-here-requires c).In-loop-left).0, omega (arith, l.invariant.1, c.loop-left-test.true)); round_in_bounds = grown_room a.out.now a.at l.out l.here (line (goal.at.write_entry-here-requires c).In-loop-left) (others (goal.at.write_entry-here-requires c).In-loop-left) (whole (goal.at.write_entry-here-requires c).In-loop-left) (turn (goal.at.write_entry-here-requires c).In-loop-left) c.requires.round_in_bounds }
 
 pub overflow_add-from : goal.overflow_add-from
 overflow_add-from c = omega (arith, (room (goal.at.overflow_add-from c).In-loop-left).0)
@@ -68,18 +68,18 @@ loop-left-preserved c =
     let l = c.loop-left in (
       (room (goal.at.loop-left-preserved c).In-loop-left).1,
       omega (arith, l.invariant.1, c.loop-left-test.true),
-      grown-more a.out.now a.at l.out l.here (line (goal.at.loop-left-preserved c).In-loop-left) (others (goal.at.loop-left-preserved c).In-loop-left) (whole (goal.at.loop-left-preserved c).In-loop-left) (turn (goal.at.loop-left-preserved c).In-loop-left) c.requires.round_in_bounds _ _ c.write_entry-here.ensures.out_after c.write_entry-here.ensures.value,
+      grown_more a.out.now a.at l.out l.here (line (goal.at.loop-left-preserved c).In-loop-left) (others (goal.at.loop-left-preserved c).In-loop-left) (whole (goal.at.loop-left-preserved c).In-loop-left) (turn (goal.at.loop-left-preserved c).In-loop-left) c.requires.round_in_bounds _ _ c.write_entry-here.ensures.out_after c.write_entry-here.ensures.value,
     )
 
 pub shape_of-out : goal.shape_of-out
 shape_of-out c =
     let l = c.loop-left in
     let a = c.args in
-    grown-length a.out.now a.at l.out l.here _ _ l.invariant.2
+    grown_length a.out.now a.at l.out l.here _ _ l.invariant.2
 
 pub returns : goal.returns
 returns c =
     let l = c.loop-left in
     let a = c.args in
-    let both = all-written a.out.now a.at l.out l.here _
+    let both = all_written a.out.now a.at l.out l.here _
     (rw (entries_none a.k l.left (drop l.from a.round.now) (drop l.place a.round.now) c.loop-left-test.false) at l.invariant.2) in record { value = both.0; out_after = both.1 }

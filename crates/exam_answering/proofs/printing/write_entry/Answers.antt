@@ -5,10 +5,10 @@ use mathlib.Core.Path.{◌≡◌, ap, ap₂, ◌∙◌}
 use lib.ListN.{length, take, drop}
 use Rattle.numbers.specs.Numbers.{from_little}
 use Rattle.bits.specs.Packing.{packed_length, unpack}
-use Rattle.places.proofs.Places.{window-inside}
+use Rattle.places.proofs.Places.{window_inside}
 use Rattle.query.proofs.Pieces.{part_length}
 use Rattle.exam_lines.specs.Lines.{prefix_line}
-use Rattle.fields.proofs.LineRoom.{put-there}
+use Rattle.fields.proofs.LineRoom.{put_there}
 use Rattle.exam_answering.proofs.printing.write_entry.Goals as goal
 use Rattle.exam_answering.proofs.printing.write_entry.Goals.{After-read_le8, Start}
 
@@ -22,7 +22,7 @@ line : (c : After-read_le8)
 line c =
     let a = c.args in
     ap₂ (λ (m t : ℕ). prefix_line (unpack a.k (take m (drop a.from a.round.now))) t) (width c.args.from c.args.w)
-    (c.read_le8.ensures ∙ ap from_little (window-inside 8 a.place a.round.now c.requires.w_value.2))
+    (c.read_le8.ensures ∙ ap from_little (window_inside 8 a.place a.round.now c.requires.w_value.2))
 
 -- the prefix is in as many bytes as its bits take
 sized : (s : Start) → length (take (s.args.from + s.args.w - s.args.from) (drop s.args.from s.args.round.now)) ≡ packed_length s.args.k
@@ -35,5 +35,5 @@ returns c =
     let a = c.args in
     let r = (goal.at.returns c).After-read_le8 in
     let both =
-    rw (line r) at (put-there (λ x. prefix_line x c.read_le8.result) a.out.now a.at a.k (take (a.from + a.w - a.from) (drop a.from a.round.now)) (sized (goal.at.returns c).Start) (rw (line r) c.requires.round_in_bounds) _ _ (c.write_prefix_line.ensures.place, c.write_prefix_line.ensures.space)) in
+    rw (line r) at (put_there (λ x. prefix_line x c.read_le8.result) a.out.now a.at a.k (take (a.from + a.w - a.from) (drop a.from a.round.now)) (sized (goal.at.returns c).Start) (rw (line r) c.requires.round_in_bounds) _ _ (c.write_prefix_line.ensures.place, c.write_prefix_line.ensures.space)) in
     record { value = both.0; out_after = both.1 }

@@ -6,12 +6,12 @@ use native.Mathlib.Omega.{arith}
 use mathlib.Core.List.{List, ◌++◌}
 use lib.ListN.{length, take, drop}
 use Rattle.bits.specs.Packing.{packed_length, unpack}
-use Rattle.places.proofs.Places.{Grown, grown-start, grown-room, grown-more}
-use Rattle.query.proofs.Pieces.{next-room, grown-length}
+use Rattle.places.proofs.Places.{Grown, grown_start, grown_room, grown_more}
+use Rattle.query.proofs.Pieces.{next_room, grown_length}
 use Rattle.exam_lines.specs.Lines.{heavy_line}
 use Rattle.exam_answering.specs.Printing.{list_lines}
-use Rattle.fields.proofs.FieldChain.{all-written}
-use Rattle.exam_answering.proofs.PrintedLines.{list-none, list-step}
+use Rattle.fields.proofs.FieldChain.{all_written}
+use Rattle.exam_answering.proofs.PrintedLines.{list_none, list_step}
 use Rattle.exam_answering.proofs.printing.write_list.Goals as goal
 use Rattle.exam_answering.proofs.printing.write_list.Goals.{In-loop-left}
 
@@ -33,12 +33,12 @@ turn : (i : In-loop-left)
 turn i =
     let a = i.args in
     let l = i.loop-left in
-    rw (← list-step a.n (width i) l.left l.from a.list.now i.packed_length-w.ensures i.loop-left-test.true) l.invariant.1
+    rw (← list_step a.n (width i) l.left l.from a.list.now i.packed_length-w.ensures i.loop-left-test.true) l.invariant.1
 
 room : (i : In-loop-left)
     → (i.loop-left.from + width i ≤ length i.args.list.now)
     × (i.loop-left.from + width i + (i.loop-left.left - 1) * width i ≤ length i.args.list.now)
-room i = let l = i.loop-left in next-room l.left (width i) l.from (length i.args.list.now) i.loop-left-test.true l.invariant.0
+room i = let l = i.loop-left in next_room l.left (width i) l.from (length i.args.list.now) i.loop-left-test.true l.invariant.0
 
 -- ---- the needs
 pub nonzero_div-left : goal.nonzero_div-left
@@ -48,7 +48,7 @@ pub loop-left-init : goal.loop-left-init
 loop-left-init c =
     let a = c.args in
     let w = c.packed_length-w in
-    (omega (arith, div-mul-le_self (length a.list.now) w.result), rw w.ensures (grown-start a.out.now a.at _))
+    (omega (arith, div-mul-le_self (length a.list.now) w.result), rw w.ensures (grown_start a.out.now a.at _))
 
 pub write_heavy-here-requires : goal.write_heavy-here-requires
 write_heavy-here-requires c =
@@ -56,7 +56,7 @@ write_heavy-here-requires c =
     let l = c.loop-left in (
       c.packed_length-w.ensures,
       (room (goal.at.write_heavy-here-requires c).In-loop-left).0,
-      grown-room a.out.now a.at l.out l.here (line (goal.at.write_heavy-here-requires c).In-loop-left) (others (goal.at.write_heavy-here-requires c).In-loop-left) (whole (goal.at.write_heavy-here-requires c).In-loop-left) (turn (goal.at.write_heavy-here-requires c).In-loop-left) c.requires.1,
+      grown_room a.out.now a.at l.out l.here (line (goal.at.write_heavy-here-requires c).In-loop-left) (others (goal.at.write_heavy-here-requires c).In-loop-left) (whole (goal.at.write_heavy-here-requires c).In-loop-left) (turn (goal.at.write_heavy-here-requires c).In-loop-left) c.requires.1,
     )
 
 pub overflow_add-from : goal.overflow_add-from
@@ -67,17 +67,17 @@ loop-left-preserved c =
     let a = c.args in
     let l = c.loop-left in (
       (room (goal.at.loop-left-preserved c).In-loop-left).1,
-      grown-more a.out.now a.at l.out l.here (line (goal.at.loop-left-preserved c).In-loop-left) (others (goal.at.loop-left-preserved c).In-loop-left) (whole (goal.at.loop-left-preserved c).In-loop-left) (turn (goal.at.loop-left-preserved c).In-loop-left) c.requires.1 _ _ c.write_heavy-here.ensures.out_after c.write_heavy-here.ensures.value,
+      grown_more a.out.now a.at l.out l.here (line (goal.at.loop-left-preserved c).In-loop-left) (others (goal.at.loop-left-preserved c).In-loop-left) (whole (goal.at.loop-left-preserved c).In-loop-left) (turn (goal.at.loop-left-preserved c).In-loop-left) c.requires.1 _ _ c.write_heavy-here.ensures.out_after c.write_heavy-here.ensures.value,
     )
 
 pub shape_of-out : goal.shape_of-out
 shape_of-out c =
     let l = c.loop-left in
     let a = c.args in
-    grown-length a.out.now a.at l.out l.here _ _ l.invariant.1
+    grown_length a.out.now a.at l.out l.here _ _ l.invariant.1
 
 pub returns : goal.returns
 returns c =
     let l = c.loop-left in
     let a = c.args in
-    let both = all-written a.out.now a.at l.out l.here _ (rw (list-none a.n l.left (drop l.from a.list.now) c.loop-left-test.false) at l.invariant.1) in record { value = both.0; out_after = both.1 }
+    let both = all_written a.out.now a.at l.out l.here _ (rw (list_none a.n l.left (drop l.from a.list.now) c.loop-left-test.false) at l.invariant.1) in record { value = both.0; out_after = both.1 }

@@ -4,7 +4,7 @@ use mathlib.Core.Path.{◌≡◌}
 use mathlib.Core.List.{List}
 use lib.ListN.{drop}
 use Rattle.exam_answering.specs.Printing.{entry_lines}
-use Rattle.exam_answering.proofs.PrintedLines.{round_lines, round-lines, round_room}
+use Rattle.exam_answering.proofs.PrintedLines.{round_lines, round_lines_lem, round_room}
 use Rattle.exam_answering.proofs.printing.write_round.Goals as goal
 use Rattle.exam_answering.proofs.printing.write_round.Goals.{After-query_length-totals}
 
@@ -15,7 +15,7 @@ bytes q = q.args.rounds.now
 lines : (q : After-query_length-totals)
     → entry_lines q.prefix_length-k.result q.prefix_count-count.result (drop 6 (bytes q)) (drop q.query_length-totals.result (bytes q))
     ≡ round_lines (bytes q)
-lines q = round-lines (bytes q) _ _ _ q.prefix_length-k.ensures.0 q.prefix_count-count.ensures.0 q.query_length-totals.ensures
+lines q = round_lines_lem (bytes q) _ _ _ q.prefix_length-k.ensures.0 q.prefix_count-count.ensures.0 q.query_length-totals.ensures
 
 pub write_entries-requires : goal.write_entries-requires
 write_entries-requires c =

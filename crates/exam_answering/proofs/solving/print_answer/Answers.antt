@@ -15,13 +15,13 @@ use Rattle.honest.specs.Honest.{Accepted, record_read, list_read}
 use Rattle.exam_text.specs.Sheet.{Sheet, expander_number, Within}
 use Rattle.exam_text.specs.Reader.{read_sheet, sheet_of}
 use Rattle.exam_text.proofs.Records.{Rounds}
-use Rattle.exam_text.proofs.ReaderExact.{sheet-within}
+use Rattle.exam_text.proofs.ReaderExact.{sheet_within}
 use Rattle.exam_reports.specs.SheetReports.{made_with, reports_made, seeds0_of, seeds1_of, public_shares_of}
-use Rattle.exam_reports.proofs.SheetMaking.{reports-stand, reports-read}
+use Rattle.exam_reports.proofs.SheetMaking.{reports_stand, reports_read}
 use Rattle.exam_answering.specs.Printing.{printed, round_length}
 use Rattle.exam_answering.specs.SheetSearch.{sheet_search, searched_text}
-use Rattle.exam_answering.proofs.Longest.{answer-most}
-use Rattle.exam_answering.proofs.SheetSearch.{shares-room, same-lent, sheet-accepted, sheet-printed, sheet-rounds}
+use Rattle.exam_answering.proofs.Longest.{answer_most}
+use Rattle.exam_answering.proofs.SheetSearch.{shares_room, same_lent, sheet_accepted, sheet_printed, sheet_rounds}
 use borrow.Author.Rules.{rules}
 use Rattle.exam_answering.proofs.solving.print_answer.Goals as goal
 use Rattle.exam_answering.proofs.solving.print_answer.Goals.{Start}
@@ -31,7 +31,7 @@ abbrev sheet : Start → Sheet
 sheet s = sheet_of s.args.text.now
 
 within : (s : Start) → Within (sheet s)
-within s = (sheet-within s.args.text.now s.requires.text_value.0).0
+within s = (sheet_within s.args.text.now s.requires.text_value.0).0
 
 from : (s : Start) → 1 ≤ (sheet s).n
 from s = omega (arith, s.requires.text_value.1, s.requires.n_value.0)
@@ -50,19 +50,19 @@ abbrev asked : Start → Lent
 asked s = sheet_search (sheet s) s.args.area.now s.args.list.now
 
 accepted : (s : Start) → Accepted (asked s)
-accepted s = sheet-accepted (sheet s) (within s) (from s) (known s) s.args.area.now s.args.list.now (least s) (most s) s.requires.seeds0_len.3 s.requires.seeds0_len.4
+accepted s = sheet_accepted (sheet s) (within s) (from s) (known s) s.args.area.now s.args.list.now (least s) (most s) s.requires.seeds0_len.3 s.requires.seeds0_len.4
 
 rounds : (s : Start) → Rounds round_length (sheet s).n (drop heading_length (record_read (asked s)))
-rounds s = sheet-rounds (sheet s) (within s) (from s) (known s) s.args.area.now s.args.list.now (least s) (most s) s.requires.seeds0_len.3 s.requires.seeds0_len.4
+rounds s = sheet_rounds (sheet s) (within s) (from s) (known s) s.args.area.now s.args.list.now (least s) (most s) s.requires.seeds0_len.3 s.requires.seeds0_len.4
 
 fits : (s : Start) → length (searched_text (sheet s) s.args.area.now s.args.list.now) ≤ 43232
 fits s =
-    rw (sheet-printed (sheet s) (within s) (from s) (known s) s.args.area.now s.args.list.now (least s) (most s) s.requires.seeds0_len.3 s.requires.seeds0_len.4)
-    (answer-most (sheet s) (within s) (least s))
+    rw (sheet_printed (sheet s) (within s) (from s) (known s) s.args.area.now s.args.list.now (least s) (most s) s.requires.seeds0_len.3 s.requires.seeds0_len.4)
+    (answer_most (sheet s) (within s) (least s))
 
 -- ---- what is lent to it
 room : (s : Start) (w : ℕ) → w ≡ public_share_length s.args.n → w * s.args.count ≤ 24832
-room s w size = shares-room s.args.n s.args.count w size s.requires.text_value.2 s.requires.text_value.6
+room s w size = shares_room s.args.n s.args.count w size s.requires.text_value.2 s.requires.text_value.6
 
 -- the reports that were made, in the space for the first seeds, the second seeds and the public shares
 module _ (s : Start) (r : Bool) (first second third : List ℕ)
@@ -72,7 +72,7 @@ module _ (s : Start) (r : Bool) (first second third : List ℕ)
   stand =
       let a = s.args in
       let q = s.requires in
-      reports-stand a.text.now a.seeds0.now a.seeds1.now a.shares.now q.text_value.0 (from s) (known s) a.n a.count q.n_value.0 q.n_value.3
+      reports_stand a.text.now a.seeds0.now a.seeds1.now a.shares.now q.text_value.0 (from s) (known s) a.n a.count q.n_value.0 q.n_value.3
       (omega (arith, q.text_value.6, q.seeds0_len.0)) (omega (arith, q.text_value.6, q.seeds0_len.1)) (omega (arith, room s _ refl, q.seeds0_len.2)) _ _ _ _ made
 
   reports : let n = s.args.n in let C = s.args.count in
@@ -80,7 +80,7 @@ module _ (s : Start) (r : Bool) (first second third : List ℕ)
   reports =
       let a = s.args in
       let q = s.requires in
-      reports-read a.text.now a.seeds0.now a.seeds1.now a.shares.now q.text_value.0 (from s) (known s) a.n a.count q.n_value.0 q.n_value.3
+      reports_read a.text.now a.seeds0.now a.seeds1.now a.shares.now q.text_value.0 (from s) (known s) a.n a.count q.n_value.0 q.n_value.3
       (omega (arith, q.text_value.6, q.seeds0_len.0)) (omega (arith, q.text_value.6, q.seeds0_len.1)) (omega (arith, room s _ refl, q.seeds0_len.2)) _ _ _ _ made
 
   module _ (w : ℕ) (size : w ≡ public_share_length s.args.n) where
@@ -91,21 +91,21 @@ module _ (s : Start) (r : Bool) (first second third : List ℕ)
         let m = w * a.count in
         lent a.n false a.t a.expander (take (16 * a.count) first) (take m third) (take (16 * a.count) second) (take m third) a.area.now a.list.now
 
-    same-search : lent_to ≡ asked s
-    same-search =
+    same_search : lent_to ≡ asked s
+    same_search =
         let q = s.requires in
-        same-lent (sheet s) _ _ _ _ _ _ _ _ q.n_value.0 q.n_value.1 q.n_value.2 reports.0 reports.1 (ap (λ (m : ℕ). take (m * s.args.count) third) size ∙ reports.2)
+        same_lent (sheet s) _ _ _ _ _ _ _ _ q.n_value.0 q.n_value.1 q.n_value.2 reports.0 reports.1 (ap (λ (m : ℕ). take (m * s.args.count) third) size ∙ reports.2)
 
     same_text : let a = s.args in printed a.n (record_read lent_to) (list_read lent_to) ≡ searched_text (sheet s) a.area.now a.list.now
-    same_text = ap₂ (λ (n : ℕ) (q : Lent). printed n (record_read q) (list_read q)) s.requires.n_value.0 same-search
+    same_text = ap₂ (λ (n : ℕ) (q : Lent). printed n (record_read q) (list_read q)) s.requires.n_value.0 same_search
 
     -- what is printed of it
-    text-size : (n : ℕ) → let a = s.args in n ≡ length (printed a.n (record_read lent_to) (list_read lent_to)) → n ≡ length (searched_text (sheet s) a.area.now a.list.now)
-    text-size n e = e ∙ ap length same_text
+    text_size : (n : ℕ) → let a = s.args in n ≡ length (printed a.n (record_read lent_to) (list_read lent_to)) → n ≡ length (searched_text (sheet s) a.area.now a.list.now)
+    text_size n e = e ∙ ap length same_text
 
-    text-stands : (new : List ℕ) → let a = s.args in new ≡ overlay (printed a.n (record_read lent_to) (list_read lent_to)) a.out.now
+    text_stands : (new : List ℕ) → let a = s.args in new ≡ overlay (printed a.n (record_read lent_to) (list_read lent_to)) a.out.now
         → new ≡ overlay (searched_text (sheet s) a.area.now a.list.now) a.out.now
-    text-stands new e = e ∙ ap (λ (bytes : List ℕ). overlay bytes s.args.out.now) same_text
+    text_stands new e = e ∙ ap (λ (bytes : List ℕ). overlay bytes s.args.out.now) same_text
 
 -- ---- the needs
 pub overflow_mul-shares_end : goal.overflow_mul-shares_end
@@ -129,7 +129,7 @@ search_printed-requires c =
     let s = (goal.at.search_printed-requires c).Start in
     let m = c.make_reports in
     let q = c.requires in
-    let same = sym (same-search s _ _ _ _ m.ensures _ c.public_share_length.ensures) in
+    let same = sym (same_search s _ _ _ _ m.ensures _ c.public_share_length.ensures) in
     let text = sym (same_text s _ _ _ _ m.ensures _ c.public_share_length.ensures) in
     record {
       le_n = (q.text_value.1, q.text_value.2, subst Accepted same (accepted s));
@@ -144,9 +144,9 @@ returns c =
     let s = (goal.at.returns c).Start in
     let m = c.make_reports in
     let w = c.public_share_length in
-    let size = text-size s _ _ _ _ m.ensures _ w.ensures _ c.search_printed.ensures.value in
+    let size = text_size s _ _ _ _ m.ensures _ w.ensures _ c.search_printed.ensures.value in
     record {
       seeds0_after = stand s _ _ _ _ m.ensures;
       value = (size, omega (arith, size, fits s));
-      out_after = text-stands s _ _ _ _ m.ensures _ w.ensures _ c.search_printed.ensures.out_after;
+      out_after = text_stands s _ _ _ _ m.ensures _ w.ensures _ c.search_printed.ensures.out_after;
     }

@@ -18,9 +18,9 @@ answer p = search_text (sheet_of p.args.text.now)
 size_is : (p : After-print_answer-end) → p.print_answer-end.result ≡ length (answer p)
 size_is p = p.print_answer-end.ensures.value.0
 
-printed-is : (p : After-print_answer-end) → take p.print_answer-end.result p.print_answer-end.new.out ≡ answer p
+printed_is : (p : After-print_answer-end) → take p.print_answer-end.result p.print_answer-end.new.out ≡ answer p
 unfolding overlay
-printed-is p = ap₂ take (size_is p) p.print_answer-end.ensures.out_after ∙ take-append_seam (answer p) _
+printed_is p = ap₂ take (size_is p) p.print_answer-end.ensures.out_after ∙ take-append_seam (answer p) _
 
 -- zeros, as many as were written
 zeros : (n : ℕ) → length {A = ℕ} (replicate n 0) ≡ n
@@ -32,9 +32,9 @@ print_answer-end-requires c =
     record { text_value = c.requires.text_value; n_value = c.requires.n_value; seeds0_len = (zeros 512, zeros 512, zeros 24832, zeros 19382, zeros 128, zeros 43232) }
 
 pub slice_bounds-write_text-end : goal.slice_bounds-write_text-end
-slice_bounds-write_text-end c = size_is (goal.at.slice_bounds-write_text-end c).After-print_answer-end ∙ sym (ap length (printed-is (goal.at.slice_bounds-write_text-end c).After-print_answer-end))
+slice_bounds-write_text-end c = size_is (goal.at.slice_bounds-write_text-end c).After-print_answer-end ∙ sym (ap length (printed_is (goal.at.slice_bounds-write_text-end c).After-print_answer-end))
 
 pub returns : goal.returns
 returns c =
     let out = c.args.out.now in
-    c.write_text.ensures ∙ ap (λ (l : List ℕ). exit (written_in l (length out)) out) (printed-is (goal.at.returns c).After-print_answer-end)
+    c.write_text.ensures ∙ ap (λ (l : List ℕ). exit (written_in l (length out)) out) (printed_is (goal.at.returns c).After-print_answer-end)

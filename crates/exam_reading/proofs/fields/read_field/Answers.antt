@@ -6,7 +6,7 @@ use mathlib.Core.Bool.{true}
 use borrow.Author.Tests.{not-true, not-false}
 use lib.ListN.{length, get_or, drop}
 use Rattle.exam_text.specs.Reader.{leading, is_number}
-use Rattle.exam_text.proofs.Field.{number_short, field-no-number, field-other, field-within, field-laid}
+use Rattle.exam_text.proofs.Field.{number_short, field_no_number, field_other, field_within, field_laid}
 use Rattle.exam_reading.proofs.fields.read_field.Goals as goal
 use Rattle.exam_reading.proofs.fields.read_field.Goals.{Else-byte_at-then, Else-not-is_number}
 
@@ -26,19 +26,19 @@ within : (c : Else-byte_at-then)
 within c =
     let a = c.args in
     let d = c.digits_end-end in
-    field-within a.text.now a.at a.then d.result d.ensures.0 (let it : is_number (leading (drop c.args.at c.args.text.now)) ≡ true = sym c.is_number.ensures ∙ not-false _ c.if-not-is_number.false-raw in it) (let it : get_or c.args.text.now c.digits_end-end.result 0 ≡ c.args.then = sym c.byte_at.ensures ∙ omega arith in it) (omega arith)
+    field_within a.text.now a.at a.then d.result d.ensures.0 (let it : is_number (leading (drop c.args.at c.args.text.now)) ≡ true = sym c.is_number.ensures ∙ not-false _ c.if-not-is_number.false-raw in it) (let it : get_or c.args.text.now c.digits_end-end.result 0 ≡ c.args.then = sym c.byte_at.ensures ∙ omega arith in it) (omega arith)
 
 pub returns-then-not-is_number : goal.returns-then-not-is_number
 returns-then-not-is_number c =
     let a = c.args in
-    field-no-number a.text.now a.at a.then c.digits_end-end.result c.digits_end-end.ensures.0
+    field_no_number a.text.now a.at a.then c.digits_end-end.result c.digits_end-end.ensures.0
     (sym c.is_number.ensures ∙ not-true _ c.if-not-is_number.true-raw)
 
 pub returns-then-byte_at-then : goal.returns-then-byte_at-then
 returns-then-byte_at-then c =
     let a = c.args in
     let d = c.digits_end-end in
-    field-other a.text.now a.at a.then d.result d.ensures.0 (numbered (goal.at.returns-then-byte_at-then c).Else-not-is_number) (λ e. c.if-byte_at-then.true (c.byte_at.ensures ∙ e))
+    field_other a.text.now a.at a.then d.result d.ensures.0 (numbered (goal.at.returns-then-byte_at-then c).Else-not-is_number) (λ e. c.if-byte_at-then.true (c.byte_at.ensures ∙ e))
 
 pub number_in-value-requires : goal.number_in-value-requires
 number_in-value-requires c =
@@ -53,5 +53,5 @@ pub returns : goal.returns
 returns c =
     let a = c.args in
     let d = c.digits_end-end in
-    field-laid a.text.now a.at a.then d.result d.ensures.0 (numbered (goal.at.returns c).Else-not-is_number) (ended (goal.at.returns c).Else-byte_at-then) (omega arith)
+    field_laid a.text.now a.at a.then d.result d.ensures.0 (numbered (goal.at.returns c).Else-not-is_number) (ended (goal.at.returns c).Else-byte_at-then) (omega arith)
     c.number_in-value.result c.number_in-value.ensures

@@ -1,13 +1,13 @@
 -- `exam_reading::first_line::read_end` meets its contract.
 use native.Mathlib.Omega.{arith}
 use borrow.Author.Tests.{not-true, not-false}
-use Rattle.exam_text.proofs.FirstLine.{end-without, end_none, end_with}
+use Rattle.exam_text.proofs.FirstLine.{end_without, end_none, end_with}
 use Rattle.exam_reading.proofs.first_line.read_end.Goals as goal
 
 pub returns-then-last : goal.returns-then-last
 returns-then-last c =
     let a = c.args in
-    end-without a.text.now a.at _ _ _ c.read_field-last.ensures c.if-last.true
+    end_without a.text.now a.at _ _ _ c.read_field-last.ensures c.if-last.true
 
 pub returns-then-not-count : goal.returns-then-not-count
 returns-then-not-count c =

@@ -1,13 +1,13 @@
 -- `exam_reading::first_line::read_first_line` meets its contract.
 use native.Mathlib.Omega.{arith}
 use borrow.Author.Tests.{not-true, not-false}
-use Rattle.exam_text.proofs.FirstLine.{no_line_lem, no-first, no_second, line_read}
+use Rattle.exam_text.proofs.FirstLine.{no_line_lem, no_first, no_second, line_read}
 use Rattle.exam_reading.proofs.first_line.read_first_line.Goals as goal
 
 pub returns-then-not-n : goal.returns-then-not-n
 returns-then-not-n c =
     let t = c.args.text.now in
-    no_line_lem t _ _ _ _ _ _ (no-first t _ _ _ c.read_field-n.ensures (not-true _ c.if-not-n.true)) c.no_first_line.ensures
+    no_line_lem t _ _ _ _ _ _ (no_first t _ _ _ c.read_field-n.ensures (not-true _ c.if-not-n.true)) c.no_first_line.ensures
 
 pub read_field-t-requires : goal.read_field-t-requires
 read_field-t-requires c = ((c.read_field-n.ensures.says (not-false _ c.if-not-n.false)).rest.within, omega arith)

@@ -5,7 +5,7 @@ use native.Mathlib.Omega.{arith}
 use mathlib.Core.Path.{refl, sym, ◌∙◌}
 use borrow.Author.Tests.{not-true, not-false}
 use lib.ListN.{drop}
-use Rattle.exam_text.proofs.LineTests.{hex-none, hex-no, hex-yes}
+use Rattle.exam_text.proofs.LineTests.{hex_none, hex_no, hex_yes}
 use Rattle.exam_reading.proofs.lines.are_hex.Goals as goal
 
 pub loop-left-init : goal.loop-left-init
@@ -15,17 +15,17 @@ pub returns-then-not-is_hex : goal.returns-then-not-is_hex
 returns-then-not-is_hex c =
     let t = c.args.text.now in
     let l = c.loop-left in
-    sym (l.invariant.1 ∙ hex-no t l.i l.left (omega arith) (omega arith) (sym c.is_hex.ensures ∙ not-true _ c.if-not-is_hex.true-raw))
+    sym (l.invariant.1 ∙ hex_no t l.i l.left (omega arith) (omega arith) (sym c.is_hex.ensures ∙ not-true _ c.if-not-is_hex.true-raw))
 
 pub loop-left-preserved : goal.loop-left-preserved
 loop-left-preserved c =
     let t = c.args.text.now in
     let l = c.loop-left in
     rw (add-one l.i)
-    (omega arith, l.invariant.1 ∙ hex-yes t l.i l.left (omega arith) (omega arith) (sym c.is_hex.ensures ∙ not-false _ c.if-not-is_hex.false-raw))
+    (omega arith, l.invariant.1 ∙ hex_yes t l.i l.left (omega arith) (omega arith) (sym c.is_hex.ensures ∙ not-false _ c.if-not-is_hex.false-raw))
 
 pub returns : goal.returns
 returns c =
     let t = c.args.text.now in
     let l = c.loop-left in
-    sym (l.invariant.1 ∙ hex-none l.left (drop l.i t) (omega arith))
+    sym (l.invariant.1 ∙ hex_none l.left (drop l.i t) (omega arith))

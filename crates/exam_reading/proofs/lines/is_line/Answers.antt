@@ -3,19 +3,19 @@ use Prim.Native.Nat.{◌+◌}
 use mathlib.Core.Path.{sym, ◌∙◌}
 use borrow.Author.Tests.{not-true, not-false, eq-eqb, ne_eqb}
 use lib.ListN.{get_or}
-use Rattle.exam_text.proofs.LineTests.{line-tests}
+use Rattle.exam_text.proofs.LineTests.{line_tests_lem}
 use Rattle.exam_reading.proofs.lines.is_line.Goals as goal
 
 pub returns-then-not-are_bits : goal.returns-then-not-are_bits
 returns-then-not-are_bits c =
     let a = c.args in
-    rw (line-tests a.text.now a.at a.n, sym c.are_bits.ensures ∙ not-true _ c.if-not-are_bits.true-raw)
+    rw (line_tests_lem a.text.now a.at a.n, sym c.are_bits.ensures ∙ not-true _ c.if-not-are_bits.true-raw)
 
 pub returns-then-text-end-ne32 : goal.returns-then-text-end-ne32
 returns-then-text-end-ne32 c =
     let a = c.args in
     rw (
-      line-tests a.text.now a.at a.n,
+      line_tests_lem a.text.now a.at a.n,
       sym c.are_bits.ensures ∙ not-false _ c.if-not-are_bits.false-raw,
       ne_eqb (get_or a.text.now (a.at + a.n) 0) 32 c.if-text-end-ne32.true,
     )
@@ -24,7 +24,7 @@ pub returns-then-not-seed_then : goal.returns-then-not-seed_then
 returns-then-not-seed_then c =
     let a = c.args in
     rw (
-      line-tests a.text.now a.at a.n,
+      line_tests_lem a.text.now a.at a.n,
       sym c.are_bits.ensures ∙ not-false _ c.if-not-are_bits.false-raw,
       eq-eqb (get_or a.text.now (a.at + a.n) 0) 32 c.if-text-end-ne32.false,
       sym c.seed_then.ensures ∙ not-true _ c.if-not-seed_then.true-raw,
@@ -35,7 +35,7 @@ returns c =
     let a = c.args in
     c.seed_then-2.ensures
     ∙ rw (
-      line-tests a.text.now a.at a.n,
+      line_tests_lem a.text.now a.at a.n,
       sym c.are_bits.ensures ∙ not-false _ c.if-not-are_bits.false-raw,
       eq-eqb (get_or a.text.now (a.at + a.n) 0) 32 c.if-text-end-ne32.false,
       sym c.seed_then.ensures ∙ not-false _ c.if-not-seed_then.false-raw,

@@ -9,9 +9,9 @@ use lib.ListN.{get_or, take, drop}
 use Rattle.places.specs.Lists.{digit}
 use Rattle.bits.specs.Strings.{Bits}
 use Rattle.bits.specs.Packing.{value}
-use Rattle.bits.proofs.Packed.{value-below}
+use Rattle.bits.proofs.Packed.{value_below}
 use Rattle.exam_text.specs.Reader.{bits_read}
-use Rattle.exam_text.proofs.Values.{byte_more, byte_fits, byte-whole}
+use Rattle.exam_text.proofs.Values.{byte_more, byte_fits, byte_whole}
 use Rattle.exam_reading.proofs.parts.byte_read.Goals as goal
 use Rattle.exam_reading.proofs.parts.byte_read.Goals.{In-loop-left}
 
@@ -26,7 +26,7 @@ fits c =
     let l = c.loop-left in
     let s : Bits = read c in
     byte_fits (2 * l.x + digit (get_or s l.k false)) (l.left - 1) (value (l.left - 1) (drop (suc l.k) s))
-    (omega (arith, byte_more l.x (digit (get_or s l.k false)) l.left s l.k (omega arith) refl, l.invariant.1, value-below 8 (drop a.from s)))
+    (omega (arith, byte_more l.x (digit (get_or s l.k false)) l.left s l.k (omega arith) refl, l.invariant.1, value_below 8 (drop a.from s)))
 
 pub loop-left-init : goal.loop-left-init
 loop-left-init c = (refl, omega arith)
@@ -48,4 +48,4 @@ pub returns : goal.returns
 returns c =
     let a = c.args in
     let l = c.loop-left in
-    sym (byte-whole l.x l.left (drop l.k (bits_read (take a.n (drop a.at a.text.now)))) (omega arith)) ∙ l.invariant.1
+    sym (byte_whole l.x l.left (drop l.k (bits_read (take a.n (drop a.at a.text.now)))) (omega arith)) ∙ l.invariant.1

@@ -7,7 +7,7 @@ use mathlib.Core.Path.{◌≡◌, refl, ◌∙◌}
 use mathlib.Core.List.{List}
 use lib.ListN.{take, drop, length-set}
 use Rattle.exam_text.specs.Reader.{bytes_read}
-use Rattle.exam_text.proofs.Values.{bytes-step, high-hex, low-hex, rest-hex, seed-more, seed-whole}
+use Rattle.exam_text.proofs.Values.{bytes_step, high_hex, low_hex, rest_hex, seed_more, seed_whole}
 use Rattle.exam_reading.proofs.parts.read_seed.Goals as goal
 
 pub loop-i-init : goal.loop-i-init
@@ -18,8 +18,8 @@ hex_byte-requires c =
     let a = c.args in
     let l = c.loop-i in (
       omega arith,
-      high-hex a.text.now (a.at + 2 * l.i) (32 - 2 * l.i) (omega arith) (omega arith) l.invariant.2,
-      low-hex a.text.now (a.at + 2 * l.i) (32 - 2 * l.i) (omega arith) (omega arith) l.invariant.2,
+      high_hex a.text.now (a.at + 2 * l.i) (32 - 2 * l.i) (omega arith) (omega arith) l.invariant.2,
+      low_hex a.text.now (a.at + 2 * l.i) (32 - 2 * l.i) (omega arith) (omega arith) l.invariant.2,
     )
 
 pub loop-i-preserved : goal.loop-i-preserved
@@ -31,14 +31,14 @@ loop-i-preserved c =
     let q : a.at + 2 * (l.i + 1) ≡ a.at + 2 * l.i + 2 = omega arith in (
       omega arith,
       simp length-set l.invariant.1,
-      rw (p, q) (rest-hex a.text.now (a.at + 2 * l.i) (32 - 2 * l.i) (omega arith) (omega arith) l.invariant.2),
+      rw (p, q) (rest_hex a.text.now (a.at + 2 * l.i) (32 - 2 * l.i) (omega arith) (omega arith) l.invariant.2),
       rw (p, q, add-one l.i)
-          (seed-more l.seed l.i c.hex_byte.result rest (omega arith)
-          ∙ rw (c.hex_byte.ensures, ← bytes-step a.text.now (a.at + 2 * l.i) (32 - 2 * l.i) (omega arith) (omega arith)) l.invariant.3),
+          (seed_more l.seed l.i c.hex_byte.result rest (omega arith)
+          ∙ rw (c.hex_byte.ensures, ← bytes_step a.text.now (a.at + 2 * l.i) (32 - 2 * l.i) (omega arith) (omega arith)) l.invariant.3),
     )
 
 pub returns : goal.returns
 returns c =
     let a = c.args in
     let l = c.loop-i in
-    seed-whole l.seed l.i (32 - 2 * l.i) (drop (a.at + 2 * l.i) a.text.now) _ (omega arith) (omega arith) l.invariant.3
+    seed_whole l.seed l.i (32 - 2 * l.i) (drop (a.at + 2 * l.i) a.text.now) _ (omega arith) (omega arith) l.invariant.3

@@ -3,13 +3,13 @@ use Rattle.point.specs.PublicShare.{public_share_length}
 use Rattle.calls.specs.Outcome.{Exit}
 use lib.IntN.{pos}
 use Rattle.keymaker.specs.Key.{key_outcome}
-use Rattle.exam_reports.proofs.PiecesPut.{part-put}
+use Rattle.exam_reports.proofs.PiecesPut.{part_put}
 use mathlib.Core.Path.{ap}
 use Rattle.exam_reports.proofs.reports.write_key.Goals as goal
 
 pub returns : goal.returns
 returns c =
     let a = c.args in
-    part-put a.shares.now a.at (public_share_length a.n) c.public_share_length.result
+    part_put a.shares.now a.at (public_share_length a.n) c.public_share_length.result
     (λ room. (key_outcome a.n a.expander (pos 1) a.string.now a.seed0.now a.seed1.now room).written)
     c.make_key.new.out c.public_share_length.ensures c.requires.0 c.requires.1 (ap (λ (x : Exit). x.area) c.make_key.ensures)

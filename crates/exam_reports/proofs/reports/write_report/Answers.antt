@@ -10,10 +10,10 @@ use lib.IntN.{pos}
 use Rattle.keymaker.specs.Key.{key_outcome}
 use Rattle.exam_text.specs.Sheet.{Line}
 use Rattle.exam_text.specs.Reader.{line_at}
-use Rattle.exam_text.proofs.Values.{four-length}
-use Rattle.exam_text.proofs.Placed.{Sound, stands-sound}
+use Rattle.exam_text.proofs.Values.{four_length}
+use Rattle.exam_text.proofs.Placed.{Sound, stands_sound}
 use Rattle.exam_reports.specs.SheetReports.{public_share_for}
-use Rattle.exam_reports.proofs.LineKeys.{key-size, key-read}
+use Rattle.exam_reports.proofs.LineKeys.{key_size, key_read}
 use Rattle.exam_reports.proofs.reports.write_report.Goals as goal
 use Rattle.exam_reports.proofs.reports.write_report.Goals.{After-public_share_length, After-read_line-line}
 
@@ -21,18 +21,18 @@ abbrev line : After-public_share_length → Line
 line k = let a = k.args in line_at a.n a.at a.text.now
 
 sound : (k : After-public_share_length) → Sound k.args.n (line k)
-sound k = let a = k.args in stands-sound a.n a.at a.text.now k.requires.le_n.3
+sound k = let a = k.args in stands_sound a.n a.at a.text.now k.requires.le_n.3
 
 -- the key of what was read is that of the line
 made : (k : After-public_share_length) → let r = k.read_line-line.result in let a = k.args in
     (key_outcome a.n a.expander (pos 1) (take k.packed_length-end.result r.string) r.seed0 r.seed1 (public_share_length a.n)).written
     ≡ public_share_for a.n a.expander (line k)
 made k =
-    key-read k.args.n k.args.expander _ (line k) _ _ _ k.requires.le_n.1 (sound k) k.packed_length-end.ensures k.read_line-line.ensures.string k.read_line-line.ensures.seeds.0 k.read_line-line.ensures.seeds.1
+    key_read k.args.n k.args.expander _ (line k) _ _ _ k.requires.le_n.1 (sound k) k.packed_length-end.ensures k.read_line-line.ensures.string k.read_line-line.ensures.seeds.0 k.read_line-line.ensures.seeds.1
 
 -- its string is four bytes
 four : (r : After-read_line-line) → length r.read_line-line.result.string ≡ 4
-four r = ap length r.read_line-line.ensures.string ∙ four-length _
+four r = ap length r.read_line-line.ensures.string ∙ four_length _
 
 -- ---- the needs
 pub overflow_mul-i : goal.overflow_mul-i
@@ -55,7 +55,7 @@ overflow_mul-public_share_length c = rw c.public_share_length.ensures (omega (ar
 pub write_key-requires : goal.write_key-requires
 write_key-requires c =
     let a = c.args in
-    (rw c.public_share_length.ensures c.requires.i_in_bounds.2, ap length (made c) ∙ key-size a.n a.expander c.requires.le_n.0 c.requires.le_n.1 c.requires.le_n.2 (line c) (sound c))
+    (rw c.public_share_length.ensures c.requires.i_in_bounds.2, ap length (made c) ∙ key_size a.n a.expander c.requires.le_n.0 c.requires.le_n.1 c.requires.le_n.2 (line c) (sound c))
 
 pub returns : goal.returns
 returns c =

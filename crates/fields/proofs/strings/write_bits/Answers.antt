@@ -8,10 +8,10 @@ use lib.ListN.{length, get_or, drop}
 use Rattle.places.specs.Lists.{digit}
 use Rattle.bits.specs.Packing.{bits_of, unpack}
 use Rattle.places.specs.Places.{put_at}
-use Rattle.places.proofs.Places.{put_at-length, Grown, grown-start, grown-room, grown-more}
+use Rattle.places.proofs.Places.{put_at_length, Grown, grown_start, grown_room, grown_more}
 use Rattle.exam_text.specs.Characters.{glyph, binary}
-use Rattle.fields.proofs.FieldChain.{all-written}
-use Rattle.fields.proofs.PrintedBits.{binary-none, binary-step}
+use Rattle.fields.proofs.FieldChain.{all_written}
+use Rattle.fields.proofs.PrintedBits.{binary_none, binary_step}
 use Rattle.fields.proofs.strings.write_bits.Goals as goal
 use Rattle.fields.proofs.strings.write_bits.Goals.{In-loop-i}
 
@@ -29,17 +29,17 @@ turn : (i : In-loop-i)
     → Grown i.args.out.now i.args.at i.loop-i.out i.loop-i.here (character i ∷ others i) (whole i)
 turn i =
     let l = i.loop-i in
-    rw (← binary-step i.args.k l.i i.args.packed.now i.requires.0 i.loop-i-test.true) l.invariant.1
+    rw (← binary_step i.args.k l.i i.args.packed.now i.requires.0 i.loop-i-test.true) l.invariant.1
 
 -- ---- the needs
 pub loop-i-init : goal.loop-i-init
-loop-i-init c = let a = c.args in (omega arith, grown-start a.out.now a.at _)
+loop-i-init c = let a = c.args in (omega arith, grown_start a.out.now a.at _)
 
 pub put-here-requires : goal.put-here-requires
 put-here-requires c =
     let a = c.args in
     let l = c.loop-i in
-    omega (arith, grown-room a.out.now a.at l.out l.here (character (goal.at.put-here-requires c).In-loop-i ∷ []) (others (goal.at.put-here-requires c).In-loop-i) (whole (goal.at.put-here-requires c).In-loop-i) (turn (goal.at.put-here-requires c).In-loop-i) c.requires.1)
+    omega (arith, grown_room a.out.now a.at l.out l.here (character (goal.at.put-here-requires c).In-loop-i ∷ []) (others (goal.at.put-here-requires c).In-loop-i) (whole (goal.at.put-here-requires c).In-loop-i) (turn (goal.at.put-here-requires c).In-loop-i) c.requires.1)
 
 pub loop-i-preserved : goal.loop-i-preserved
 loop-i-preserved c =
@@ -47,7 +47,7 @@ loop-i-preserved c =
     let l = c.loop-i in
     let e : c.bit_digit.result ≡ character (goal.at.loop-i-preserved c).In-loop-i = c.bit_digit.ensures ∙ ap (λ x. glyph (digit x)) c.bit_at.ensures in (
       omega arith,
-      grown-more a.out.now a.at l.out l.here (character (goal.at.loop-i-preserved c).In-loop-i ∷ []) (others (goal.at.loop-i-preserved c).In-loop-i) (whole (goal.at.loop-i-preserved c).In-loop-i) (turn (goal.at.loop-i-preserved c).In-loop-i) c.requires.1 _ _
+      grown_more a.out.now a.at l.out l.here (character (goal.at.loop-i-preserved c).In-loop-i ∷ []) (others (goal.at.loop-i-preserved c).In-loop-i) (whole (goal.at.loop-i-preserved c).In-loop-i) (turn (goal.at.loop-i-preserved c).In-loop-i) c.requires.1 _ _
           (c.put-here.ensures.out_after ∙ ap (λ (x : ℕ). put_at l.out l.here (x ∷ [])) e) c.put-here.ensures.value,
     )
 
@@ -55,11 +55,11 @@ pub shape_of-out : goal.shape_of-out
 shape_of-out c =
     let l = c.loop-i in
     let a = c.args in
-    ap length l.invariant.1.1 ∙ put_at-length a.out.now a.at l.invariant.1.0
+    ap length l.invariant.1.1 ∙ put_at_length a.out.now a.at l.invariant.1.0
 
 pub returns : goal.returns
 returns c =
     let l = c.loop-i in
     let a = c.args in
-    let both = all-written a.out.now a.at l.out l.here _ (rw (binary-none a.k l.i a.packed.now c.loop-i-test.false) at l.invariant.1) in
+    let both = all_written a.out.now a.at l.out l.here _ (rw (binary_none a.k l.i a.packed.now c.loop-i-test.false) at l.invariant.1) in
     record { value = both.0; out_after = both.1 }

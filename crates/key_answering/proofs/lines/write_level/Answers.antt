@@ -4,12 +4,12 @@ use native.Mathlib.Numerals.{add-one}
 use mathlib.Core.Path.{◌≡◌, ap, ◌∙◌}
 use mathlib.Core.List.{◌++◌}
 use Rattle.places.specs.Lists.{digit}
-use Rattle.places.proofs.Places.{Grown, grown-start}
+use Rattle.places.proofs.Places.{Grown, grown_start}
 use Rattle.point.specs.Correction.{Correction}
 use Rattle.point.specs.PublicShare.{read_correction}
 use Rattle.exam_text.specs.Characters.{decimal}
 use Rattle.key_answering.specs.KeyPage.{spaced, level_word, level_line, correction_text}
-use Rattle.fields.proofs.FieldChain.{FieldAt, Wrote, grown-field, rest-room, rest-written}
+use Rattle.fields.proofs.FieldChain.{FieldAt, Wrote, grown_field, rest_room, rest_written}
 use Rattle.key_answering.proofs.lines.write_level.Goals as goal
 use Rattle.key_answering.proofs.lines.write_level.Goals.{After-write_number-here-3}
 
@@ -35,16 +35,16 @@ head z =
     let f₂ : FieldAt w.new.out w.result number x.new.out x.result = rw (← add-one a.k) (x.ensures.place, x.ensures.space) in
     let f₃ : FieldAt x.new.out x.result left y.new.out y.result = rw (← left-is) (y.ensures.place, y.ensures.space) in
     let f₄ : FieldAt y.new.out y.result right v.new.out v.result = rw (← right-is) (v.ensures.place, v.ensures.space) in
-    let g₁ = grown-field a.out.now a.at whole z.requires _ _ (spaced level_word) (number ++ (left ++ (right ++ rest))) (grown-start a.out.now a.at whole) _ _ (w.ensures.place, w.ensures.space) in
-    let g₂ = grown-field a.out.now a.at whole z.requires _ _ number (left ++ (right ++ rest)) g₁ _ _ f₂ in
-    let g₃ = grown-field a.out.now a.at whole z.requires _ _ left (right ++ rest) g₂ _ _ f₃ in
-    grown-field a.out.now a.at whole z.requires _ _ right rest g₃ _ _ f₄
+    let g₁ = grown_field a.out.now a.at whole z.requires _ _ (spaced level_word) (number ++ (left ++ (right ++ rest))) (grown_start a.out.now a.at whole) _ _ (w.ensures.place, w.ensures.space) in
+    let g₂ = grown_field a.out.now a.at whole z.requires _ _ number (left ++ (right ++ rest)) g₁ _ _ f₂ in
+    let g₃ = grown_field a.out.now a.at whole z.requires _ _ left (right ++ rest) g₂ _ _ f₃ in
+    grown_field a.out.now a.at whole z.requires _ _ right rest g₃ _ _ f₄
 
 pub write_correction-requires : goal.write_correction-requires
 write_correction-requires c =
     let a = c.args in
     let word = read_correction a.n a.share.now a.k in
-    rw c.read_correction-word.ensures (rest-room a.out.now a.at (level_line a.k word) c.requires _ _ (correction_text word) (head (goal.at.write_correction-requires c).After-write_number-here-3))
+    rw c.read_correction-word.ensures (rest_room a.out.now a.at (level_line a.k word) c.requires _ _ (correction_text word) (head (goal.at.write_correction-requires c).After-write_number-here-3))
 
 pub returns : goal.returns
 returns c =
@@ -53,5 +53,5 @@ returns c =
     let q = c.write_correction in
     let z = c.write_number-here-3 in
     let corrections : Wrote z.new.out z.result (correction_text word) q.new.out q.result = rw (← c.read_correction-word.ensures) (q.ensures.value, q.ensures.out_after) in
-    let both = rest-written a.out.now a.at (level_line a.k word) c.requires _ _ (correction_text word) (head (goal.at.returns c).After-write_number-here-3) _ _ corrections in
+    let both = rest_written a.out.now a.at (level_line a.k word) c.requires _ _ (correction_text word) (head (goal.at.returns c).After-write_number-here-3) _ _ corrections in
     record { value = both.0; out_after = both.1 }

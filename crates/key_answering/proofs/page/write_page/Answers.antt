@@ -5,14 +5,14 @@ use mathlib.Core.Path.{◌≡◌, sym, ◌∙◌}
 use mathlib.Core.List.{List, ◌++◌}
 use lib.ListN.{length, take}
 use lib.Seq.{length-take-le}
-use Rattle.places.proofs.Places.{Grown, grown-start, grown-room, grown-more, put_at-overlay}
+use Rattle.places.proofs.Places.{Grown, grown_start, grown_room, grown_more, put_at_overlay}
 use Rattle.bits.specs.Packing.{packed_length, unpack}
-use Rattle.bits.proofs.Packed.{unpack-length}
+use Rattle.bits.proofs.Packed.{unpack_length}
 use Rattle.expander.specs.declared.Expander.{Expander}
 use Rattle.point.specs.PublicShare.{joined, control_bytes, read_correction}
-use Rattle.fields.proofs.FieldChain.{Wrote, rest-room, rest-written}
+use Rattle.fields.proofs.FieldChain.{Wrote, rest_room, rest_written}
 use Rattle.key_answering.specs.KeyPage.{control_line, level_line, path_lines, page, page_space}
-use Rattle.key_answering.proofs.Lengths.{page-most}
+use Rattle.key_answering.proofs.Lengths.{page_most}
 use Rattle.key_answering.proofs.page.write_page.Goals as goal
 use Rattle.key_answering.proofs.page.write_page.Goals.{After-level_start-control, After-write_control-levels}
 
@@ -32,23 +32,23 @@ module _ (e : Expander) (n : ℕ) (string seed0 seed1 share : List ℕ) where
 
   room : n ≤ 32 → length string ≡ packed_length n → (out : List ℕ) → page_space ≤ length out → 0 + length whole ≤ length out
   unfolding page
-  room to sized out fits = omega (arith, fits, page-most e n (unpack n string) seed0 seed1 share (unpack-length n string sized) to)
+  room to sized out fits = omega (arith, fits, page_most e n (unpack n string) seed0 seed1 share (unpack_length n string sized) to)
 
   -- the control bytes are written, and then the levels
   first : (out : List ℕ) → 0 + length whole ≤ length out → (o : List ℕ) (p : ℕ) → Wrote out 0 control o p → Grown out 0 o p (levels ++ path) whole
-  first out fits o p w = grown-more out 0 out 0 control (levels ++ path) whole (grown-start out 0 whole) fits o p w.1 w.0
+  first out fits o p w = grown_more out 0 out 0 control (levels ++ path) whole (grown_start out 0 whole) fits o p w.1 w.0
 
   second : (out : List ℕ) → 0 + length whole ≤ length out → (o : List ℕ) (p : ℕ) → Wrote out 0 control o p → (o' : List ℕ) (p' : ℕ) → Wrote o p levels o' p'
       → Grown out 0 o' p' path whole
-  second out fits o p w o' p' v = grown-more out 0 o p levels path whole (first out fits o p w) fits o' p' v.1 v.0
+  second out fits o p w o' p' v = grown_more out 0 o p levels path whole (first out fits o p w) fits o' p' v.1 v.0
 
 -- the control bytes end where the first level begins
 begin : (c : After-level_start-control) → c.level_start-control.result ≡ control_bytes c.args.n
 begin c = omega (arith, c.level_start-control.ensures)
 
-control-wrote : (w : After-write_control-levels) → w.level_start-control.result ≡ control_bytes w.args.n → let a = w.args in
+control_wrote : (w : After-write_control-levels) → w.level_start-control.result ≡ control_bytes w.args.n → let a = w.args in
     Wrote a.out.now 0 (control a.e a.n a.string.now a.seed0 a.seed1 a.share.now) w.write_control-levels.new.out w.write_control-levels.result
-control-wrote w is = let l = w.write_control-levels in rw (← is) (l.ensures.value, l.ensures.out_after)
+control_wrote w is = let l = w.write_control-levels in rw (← is) (l.ensures.value, l.ensures.out_after)
 
 -- ---- the needs
 pub slice_bounds-write_control-end : goal.slice_bounds-write_control-end
@@ -61,15 +61,15 @@ write_control-levels-requires c =
     let fits = room a.e a.n a.string.now a.seed0 a.seed1 a.share.now c.requires.0 c.requires.1 a.out.now c.requires.3 in
     let all = whole a.e a.n a.string.now a.seed0 a.seed1 a.share.now in
     rw (begin (goal.at.write_control-levels-requires c).After-level_start-control)
-    (grown-room a.out.now 0 a.out.now 0 (control a.e a.n a.string.now a.seed0 a.seed1 a.share.now) (levels a.e a.n a.string.now a.seed0 a.seed1 a.share.now ++ path a.e a.n a.string.now a.seed0 a.seed1 a.share.now) all (grown-start a.out.now 0 all) fits)
+    (grown_room a.out.now 0 a.out.now 0 (control a.e a.n a.string.now a.seed0 a.seed1 a.share.now) (levels a.e a.n a.string.now a.seed0 a.seed1 a.share.now ++ path a.e a.n a.string.now a.seed0 a.seed1 a.share.now) all (grown_start a.out.now 0 all) fits)
 
 pub write_levels-path-requires : goal.write_levels-path-requires
 write_levels-path-requires c =
     let a = c.args in
     let at = goal.at.write_levels-path-requires c in
     let fits = room a.e a.n a.string.now a.seed0 a.seed1 a.share.now c.requires.0 c.requires.1 a.out.now c.requires.3 in
-    grown-room a.out.now 0 _ _ (levels a.e a.n a.string.now a.seed0 a.seed1 a.share.now) (path a.e a.n a.string.now a.seed0 a.seed1 a.share.now) (whole a.e a.n a.string.now a.seed0 a.seed1 a.share.now)
-    (first a.e a.n a.string.now a.seed0 a.seed1 a.share.now a.out.now fits _ _ (control-wrote at.After-write_control-levels (begin at.After-level_start-control))) fits
+    grown_room a.out.now 0 _ _ (levels a.e a.n a.string.now a.seed0 a.seed1 a.share.now) (path a.e a.n a.string.now a.seed0 a.seed1 a.share.now) (whole a.e a.n a.string.now a.seed0 a.seed1 a.share.now)
+    (first a.e a.n a.string.now a.seed0 a.seed1 a.share.now a.out.now fits _ _ (control_wrote at.After-write_control-levels (begin at.After-level_start-control))) fits
 
 pub write_path-requires : goal.write_path-requires
 write_path-requires c =
@@ -79,8 +79,8 @@ write_path-requires c =
     let v = c.write_levels-path in
     record {
       n_bound = (c.requires.0, c.requires.1);
-      share_in_bounds = rest-room a.out.now 0 (whole a.e a.n a.string.now a.seed0 a.seed1 a.share.now) fits _ _ (path a.e a.n a.string.now a.seed0 a.seed1 a.share.now)
-          (second a.e a.n a.string.now a.seed0 a.seed1 a.share.now a.out.now fits _ _ (control-wrote at.After-write_control-levels (begin at.After-level_start-control)) _ _ (v.ensures.value, v.ensures.out_after));
+      share_in_bounds = rest_room a.out.now 0 (whole a.e a.n a.string.now a.seed0 a.seed1 a.share.now) fits _ _ (path a.e a.n a.string.now a.seed0 a.seed1 a.share.now)
+          (second a.e a.n a.string.now a.seed0 a.seed1 a.share.now a.out.now fits _ _ (control_wrote at.After-write_control-levels (begin at.After-level_start-control)) _ _ (v.ensures.value, v.ensures.out_after));
     }
 
 pub returns : goal.returns
@@ -91,7 +91,7 @@ returns c =
     let fits = room a.e a.n a.string.now a.seed0 a.seed1 a.share.now c.requires.0 c.requires.1 a.out.now c.requires.3 in
     let v = c.write_levels-path in
     let p = c.write_path in
-    let all = rest-written a.out.now 0 (whole a.e a.n a.string.now a.seed0 a.seed1 a.share.now) fits _ _ (path a.e a.n a.string.now a.seed0 a.seed1 a.share.now)
-    (second a.e a.n a.string.now a.seed0 a.seed1 a.share.now a.out.now fits _ _ (control-wrote at.After-write_control-levels (begin at.After-level_start-control)) _ _ (v.ensures.value, v.ensures.out_after)) _ _
+    let all = rest_written a.out.now 0 (whole a.e a.n a.string.now a.seed0 a.seed1 a.share.now) fits _ _ (path a.e a.n a.string.now a.seed0 a.seed1 a.share.now)
+    (second a.e a.n a.string.now a.seed0 a.seed1 a.share.now a.out.now fits _ _ (control_wrote at.After-write_control-levels (begin at.After-level_start-control)) _ _ (v.ensures.value, v.ensures.out_after)) _ _
     (p.ensures.value, p.ensures.out_after) in
-    record { value = omega (arith, all.0); out_after = all.1 ∙ put_at-overlay a.out.now (whole a.e a.n a.string.now a.seed0 a.seed1 a.share.now) (omega (arith, fits)) }
+    record { value = omega (arith, all.0); out_after = all.1 ∙ put_at_overlay a.out.now (whole a.e a.n a.string.now a.seed0 a.seed1 a.share.now) (omega (arith, fits)) }

@@ -6,7 +6,7 @@ use Rattle.bits.specs.Strings.{◌▹◌}
 use Rattle.bits.specs.Packing.{packed_length, unpack}
 use Rattle.key_answering.specs.KeyPage.{shares_line, shares_line_at}
 use Rattle.fields.proofs.FieldChain.{Wrote}
-use Rattle.key_answering.proofs.Sides.{side-size, side-packed, side-line}
+use Rattle.key_answering.proofs.Sides.{side_size, side_packed, side_line}
 use Rattle.key_answering.proofs.page.write_side.Goals as goal
 use Rattle.key_answering.proofs.page.write_side.Goals.{After-packed_length-end, After-shares_at-one}
 
@@ -15,8 +15,8 @@ packed : (c : After-packed_length-end) → let a = c.args in
     length (take c.packed_length-end.result c.write_child.new.out) ≡ packed_length (a.k + 1)
 packed c =
     let a = c.args in
-    ap length (side-packed a.n a.k a.string.now a.bit c.requires.k_lt_n.0 c.requires.k_lt_n.1 c.requires.k_lt_n.2 _ _ c.packed_length-end.ensures c.write_child.ensures)
-    ∙ side-size a.n a.k a.string.now a.bit c.requires.k_lt_n.0 c.requires.k_lt_n.1 c.requires.k_lt_n.2
+    ap length (side_packed a.n a.k a.string.now a.bit c.requires.k_lt_n.0 c.requires.k_lt_n.1 c.requires.k_lt_n.2 _ _ c.packed_length-end.ensures c.write_child.ensures)
+    ∙ side_size a.n a.k a.string.now a.bit c.requires.k_lt_n.0 c.requires.k_lt_n.1 c.requires.k_lt_n.2
 
 -- the line that is written
 line : (o : After-shares_at-one) → let a = o.args in
@@ -25,7 +25,7 @@ line : (o : After-shares_at-one) → let a = o.args in
     ≡ shares_line_at a.e a.n (unpack a.n a.string.now) a.seed0 a.seed1 a.share.now a.word.now (take a.k (unpack a.n a.string.now) ▹ a.bit)
 line o =
     let a = o.args in
-    side-line a.n a.k a.string.now a.bit o.requires.k_lt_n.0 o.requires.k_lt_n.1 o.requires.k_lt_n.2 _ _ o.packed_length-end.ensures o.write_child.ensures a.e a.seed0
+    side_line a.n a.k a.string.now a.bit o.requires.k_lt_n.0 o.requires.k_lt_n.1 o.requires.k_lt_n.2 _ _ o.packed_length-end.ensures o.write_child.ensures a.e a.seed0
     a.seed1 a.share.now a.word.now _ _ o.shares_at-zero.ensures.first_value o.shares_at-one.ensures.first_value
 
 pub slice_bounds-prefix-end : goal.slice_bounds-prefix-end

@@ -1,12 +1,12 @@
 -- `keymaker::level::both_children` meets its contract. Each child is split from its block.
 use mathlib.Core.Bool.{true, false}
-use Rattle.nodes.proofs.Nodes.{child-split}
+use Rattle.nodes.proofs.Nodes.{child_split}
 use Rattle.keymaker.proofs.level.both_children.Goals as goal
 
 pub returns : goal.returns
 returns c =
     let b = c.two_blocks-blocks in
     let a = c.args in (
-      child-split a.e a.seed false b.ensures.0 c.split-left.ensures.0 c.split-left.ensures.1,
-      child-split a.e a.seed true b.ensures.1 c.split-right.ensures.0 c.split-right.ensures.1,
+      child_split a.e a.seed false b.ensures.0 c.split-left.ensures.0 c.split-left.ensures.1,
+      child_split a.e a.seed true b.ensures.1 c.split-right.ensures.0 c.split-right.ensures.1,
     )

@@ -3,7 +3,7 @@ use mathlib.Core.Path.{ap₂, ◌∙◌}
 use Rattle.expander.specs.Expander.{xor_bytes}
 use Rattle.point.specs.Instance.{scheme}
 use Rattle.nodes.specs.NodeLayout.{node_of}
-use Rattle.keymaker.proofs.KeyLevel.{seed-made, left-made, right-made, kept-made}
+use Rattle.keymaker.proofs.KeyLevel.{seed_made, left_made, right_made, kept_made}
 use Rattle.keymaker.proofs.level.kept_children.Goals as goal
 
 pub returns : goal.returns
@@ -20,10 +20,10 @@ returns c =
     let r1 = node_of b1.result.right in
     let seed =
     c.xor-seed.ensures ∙ ap₂ xor_bytes c.lose_seed.ensures c.lose_seed-2.ensures
-    ∙ seed-made S a.a n0 n1 l0 r0 l1 r1 b0.ensures.0 b0.ensures.1 b1.ensures.0 b1.ensures.1 in
-    let left = left-made S a.a n0 n1 l0 r0 l1 r1 b0.ensures.0 b0.ensures.1 b1.ensures.0 b1.ensures.1 in
-    let right = right-made S a.a n0 n1 l0 r0 l1 r1 b0.ensures.0 b0.ensures.1 b1.ensures.0 b1.ensures.1 in
-    let kept = kept-made S a.a n0 n1 l0 r0 l1 r1 b0.ensures.0 b0.ensures.1 b1.ensures.0 b1.ensures.1 in record {
+    ∙ seed_made S a.a n0 n1 l0 r0 l1 r1 b0.ensures.0 b0.ensures.1 b1.ensures.0 b1.ensures.1 in
+    let left = left_made S a.a n0 n1 l0 r0 l1 r1 b0.ensures.0 b0.ensures.1 b1.ensures.0 b1.ensures.1 in
+    let right = right_made S a.a n0 n1 l0 r0 l1 r1 b0.ensures.0 b0.ensures.1 b1.ensures.0 b1.ensures.1 in
+    let kept = kept_made S a.a n0 n1 l0 r0 l1 r1 b0.ensures.0 b0.ensures.1 b1.ensures.0 b1.ensures.1 in record {
       words = (seed, left, right);
       kept = (
         c.keep-kept0.ensures ∙ kept n0 l0 r0 _ _ _ seed left right b0.ensures.0 b0.ensures.1,

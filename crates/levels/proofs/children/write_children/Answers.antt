@@ -9,14 +9,14 @@ use lib.ListN.{length, take, drop}
 use Rattle.numbers.specs.Numbers.{from_little}
 use Rattle.bits.specs.Packing.{packed_length, unpack}
 use Rattle.places.specs.Places.{window}
-use Rattle.places.proofs.Places.{Grown, grown-start, grown-end}
+use Rattle.places.proofs.Places.{Grown, grown_start, grown_end}
 use Rattle.query.specs.Query.{packs, children}
 use Rattle.query.specs.Written.{both_children}
-use Rattle.query.proofs.Pieces.{part_length, next-room, numbers_at, grown-fitting, grown-length}
-use Rattle.kept.proofs.Onward.{children-none}
+use Rattle.query.proofs.Pieces.{part_length, next_room, numbers_at, grown_fitting, grown_length}
+use Rattle.kept.proofs.Onward.{children_none}
 use Rattle.kept.specs.Kept.{reaches_by}
 use Rattle.tree.proofs.Levels.{reaching_at}
-use Rattle.levels.proofs.Pieces.{unpack-padded, children-at, grown-part, grown-window}
+use Rattle.levels.proofs.Pieces.{unpack_padded, children_at, grown_part, grown_window}
 use Rattle.levels.proofs.children.write_children.Goals as goal
 use Rattle.levels.proofs.children.write_children.Goals.{After-reaches-kept, After-read_prefix-prefix, In-loop-left}
 
@@ -36,7 +36,7 @@ whole i = let a = i.args in packs (children (reaching_at (reaches_by a.rule) a.k
 room : (i : In-loop-left)
     → (i.loop-left.source + width i ≤ i.args.at)
     × (i.loop-left.source + width i + (i.loop-left.left - 1) * width i ≤ i.args.at)
-room i = let l = i.loop-left in next-room l.left (width i) l.source i.args.at i.loop-left-test.true l.invariant.0
+room i = let l = i.loop-left in next_room l.left (width i) l.source i.args.at i.loop-left-test.true l.invariant.0
 
 whole_room : (i : In-loop-left) → i.args.at + length (whole i) ≤ length i.args.area.now
 whole_room i = i.requires.place_in_bounds
@@ -44,8 +44,8 @@ whole_room i = i.requires.place_in_bounds
 within : (i : In-loop-left) → i.args.at ≤ length i.args.area.now
 within i = omega (arith, whole_room i)
 
-area-length : (i : In-loop-left) → length i.loop-left.area ≡ length i.args.area.now
-area-length i = let l = i.loop-left in grown-length i.args.area.now i.args.at l.area l.here _ _ l.invariant.2
+area_length : (i : In-loop-left) → length i.loop-left.area ≡ length i.args.area.now
+area_length i = let l = i.loop-left in grown_length i.args.area.now i.args.at l.area l.here _ _ l.invariant.2
 
 -- what is written
 abbrev piece : After-reaches-kept → List ℕ
@@ -59,25 +59,25 @@ turn k =
     let l = k.loop-left in
     let h : l.total + 8 ≤ length a.area.now = omega (arith, l.invariant.1, k.loop-left-test.true, (let it : k.args.at ≤ length k.args.area.now = omega (arith, (let it : k.args.at + length (let a = k.args in packs (children (reaching_at (reaches_by a.rule) a.k a.area.now a.count a.from a.place))) ≤ length k.args.area.now = k.requires.place_in_bounds in it)) in it)) in
     let f : k.reaches-kept.result ≡ reaches_by a.rule (from_little (window 8 l.total a.area.now)) =
-    k.reaches-kept.ensures ∙ ap (reaches_by a.rule) (k.read_le8.ensures ∙ ap from_little (let it : window 8 k.loop-left.total k.loop-left.area ≡ window 8 k.loop-left.total k.args.area.now = let a = k.args in let l = k.loop-left in let h : l.total + 8 ≤ a.at = omega (arith, l.invariant.1, k.loop-left-test.true) in grown-window a.area.now a.at l.area l.here _ _ l.invariant.2 8 l.total h (omega (arith, (let it : k.args.at ≤ length k.args.area.now = omega (arith, (let it : k.args.at + length (let a = k.args in packs (children (reaching_at (reaches_by a.rule) a.k a.area.now a.count a.from a.place))) ≤ length k.args.area.now = k.requires.place_in_bounds in it)) in it))) in it)) in
-    rw (← children-at (reaches_by a.rule) a.k a.area.now (k.packed_length-w.result) k.packed_length-w.ensures l.left l.source l.total k.loop-left-test.true h
+    k.reaches-kept.ensures ∙ ap (reaches_by a.rule) (k.read_le8.ensures ∙ ap from_little (let it : window 8 k.loop-left.total k.loop-left.area ≡ window 8 k.loop-left.total k.args.area.now = let a = k.args in let l = k.loop-left in let h : l.total + 8 ≤ a.at = omega (arith, l.invariant.1, k.loop-left-test.true) in grown_window a.area.now a.at l.area l.here _ _ l.invariant.2 8 l.total h (omega (arith, (let it : k.args.at ≤ length k.args.area.now = omega (arith, (let it : k.args.at + length (let a = k.args in packs (children (reaching_at (reaches_by a.rule) a.k a.area.now a.count a.from a.place))) ≤ length k.args.area.now = k.requires.place_in_bounds in it)) in it))) in it)) in
+    rw (← children_at (reaches_by a.rule) a.k a.area.now (k.packed_length-w.result) k.packed_length-w.ensures l.left l.source l.total k.loop-left-test.true h
     k.reaches-kept.result f) l.invariant.2
 
 -- the copy has the prefix's bits
 same_bits : (r : After-read_prefix-prefix) → unpack r.args.k r.read_prefix-prefix.result ≡ unpack r.args.k (take (r.packed_length-w.result) (drop r.loop-left.source r.args.area.now))
 same_bits r =
     let a = r.args in
-    ap (unpack a.k) (r.read_prefix-prefix.ensures ∙ rw (let it : take (r.packed_length-w.result) (drop r.loop-left.source r.loop-left.area) ≡ (take (r.packed_length-w.result) (drop r.loop-left.source r.args.area.now)) = let a = r.args in let l = r.loop-left in grown-part a.area.now a.at l.area l.here _ _ l.invariant.2 (r.packed_length-w.result) l.source (let it : (r.loop-left.source + (r.packed_length-w.result) ≤ r.args.at) × (r.loop-left.source + (r.packed_length-w.result) + (r.loop-left.left - 1) * (r.packed_length-w.result) ≤ r.args.at) = let l = r.loop-left in next-room l.left (r.packed_length-w.result) l.source r.args.at r.loop-left-test.true l.invariant.0 in it).0 (omega (arith, (let it : (r.loop-left.source + (r.packed_length-w.result) ≤ r.args.at) × (r.loop-left.source + (r.packed_length-w.result) + (r.loop-left.left - 1) * (r.packed_length-w.result) ≤ r.args.at) = let l = r.loop-left in next-room l.left (r.packed_length-w.result) l.source r.args.at r.loop-left-test.true l.invariant.0 in it).0, (let it : r.args.at ≤ length r.args.area.now = omega (arith, (let it : r.args.at + length (let a = r.args in packs (children (reaching_at (reaches_by a.rule) a.k a.area.now a.count a.from a.place))) ≤ length r.args.area.now = r.requires.place_in_bounds in it)) in it))) in it)) ∙ unpack-padded a.k 32 (take (r.packed_length-w.result) (drop r.loop-left.source r.args.area.now)) (let it : length (take (r.packed_length-w.result) (drop r.loop-left.source r.args.area.now)) ≡ packed_length r.args.k = let l = r.loop-left in part_length (r.packed_length-w.result) l.source r.args.area.now (omega (arith, (let it : (r.loop-left.source + (r.packed_length-w.result) ≤ r.args.at) × (r.loop-left.source + (r.packed_length-w.result) + (r.loop-left.left - 1) * (r.packed_length-w.result) ≤ r.args.at) = let l = r.loop-left in next-room l.left (r.packed_length-w.result) l.source r.args.at r.loop-left-test.true l.invariant.0 in it).0, (let it : r.args.at ≤ length r.args.area.now = omega (arith, (let it : r.args.at + length (let a = r.args in packs (children (reaching_at (reaches_by a.rule) a.k a.area.now a.count a.from a.place))) ≤ length r.args.area.now = r.requires.place_in_bounds in it)) in it))) ∙ r.packed_length-w.ensures in it) (omega (arith, (let it : length (take (r.packed_length-w.result) (drop r.loop-left.source r.args.area.now)) ≡ packed_length r.args.k = let l = r.loop-left in part_length (r.packed_length-w.result) l.source r.args.area.now (omega (arith, (let it : (r.loop-left.source + (r.packed_length-w.result) ≤ r.args.at) × (r.loop-left.source + (r.packed_length-w.result) + (r.loop-left.left - 1) * (r.packed_length-w.result) ≤ r.args.at) = let l = r.loop-left in next-room l.left (r.packed_length-w.result) l.source r.args.at r.loop-left-test.true l.invariant.0 in it).0, (let it : r.args.at ≤ length r.args.area.now = omega (arith, (let it : r.args.at + length (let a = r.args in packs (children (reaching_at (reaches_by a.rule) a.k a.area.now a.count a.from a.place))) ≤ length r.args.area.now = r.requires.place_in_bounds in it)) in it))) ∙ r.packed_length-w.ensures in it), r.requires.k_bound.0))
+    ap (unpack a.k) (r.read_prefix-prefix.ensures ∙ rw (let it : take (r.packed_length-w.result) (drop r.loop-left.source r.loop-left.area) ≡ (take (r.packed_length-w.result) (drop r.loop-left.source r.args.area.now)) = let a = r.args in let l = r.loop-left in grown_part a.area.now a.at l.area l.here _ _ l.invariant.2 (r.packed_length-w.result) l.source (let it : (r.loop-left.source + (r.packed_length-w.result) ≤ r.args.at) × (r.loop-left.source + (r.packed_length-w.result) + (r.loop-left.left - 1) * (r.packed_length-w.result) ≤ r.args.at) = let l = r.loop-left in next_room l.left (r.packed_length-w.result) l.source r.args.at r.loop-left-test.true l.invariant.0 in it).0 (omega (arith, (let it : (r.loop-left.source + (r.packed_length-w.result) ≤ r.args.at) × (r.loop-left.source + (r.packed_length-w.result) + (r.loop-left.left - 1) * (r.packed_length-w.result) ≤ r.args.at) = let l = r.loop-left in next_room l.left (r.packed_length-w.result) l.source r.args.at r.loop-left-test.true l.invariant.0 in it).0, (let it : r.args.at ≤ length r.args.area.now = omega (arith, (let it : r.args.at + length (let a = r.args in packs (children (reaching_at (reaches_by a.rule) a.k a.area.now a.count a.from a.place))) ≤ length r.args.area.now = r.requires.place_in_bounds in it)) in it))) in it)) ∙ unpack_padded a.k 32 (take (r.packed_length-w.result) (drop r.loop-left.source r.args.area.now)) (let it : length (take (r.packed_length-w.result) (drop r.loop-left.source r.args.area.now)) ≡ packed_length r.args.k = let l = r.loop-left in part_length (r.packed_length-w.result) l.source r.args.area.now (omega (arith, (let it : (r.loop-left.source + (r.packed_length-w.result) ≤ r.args.at) × (r.loop-left.source + (r.packed_length-w.result) + (r.loop-left.left - 1) * (r.packed_length-w.result) ≤ r.args.at) = let l = r.loop-left in next_room l.left (r.packed_length-w.result) l.source r.args.at r.loop-left-test.true l.invariant.0 in it).0, (let it : r.args.at ≤ length r.args.area.now = omega (arith, (let it : r.args.at + length (let a = r.args in packs (children (reaching_at (reaches_by a.rule) a.k a.area.now a.count a.from a.place))) ≤ length r.args.area.now = r.requires.place_in_bounds in it)) in it))) ∙ r.packed_length-w.ensures in it) (omega (arith, (let it : length (take (r.packed_length-w.result) (drop r.loop-left.source r.args.area.now)) ≡ packed_length r.args.k = let l = r.loop-left in part_length (r.packed_length-w.result) l.source r.args.area.now (omega (arith, (let it : (r.loop-left.source + (r.packed_length-w.result) ≤ r.args.at) × (r.loop-left.source + (r.packed_length-w.result) + (r.loop-left.left - 1) * (r.packed_length-w.result) ≤ r.args.at) = let l = r.loop-left in next_room l.left (r.packed_length-w.result) l.source r.args.at r.loop-left-test.true l.invariant.0 in it).0, (let it : r.args.at ≤ length r.args.area.now = omega (arith, (let it : r.args.at + length (let a = r.args in packs (children (reaching_at (reaches_by a.rule) a.k a.area.now a.count a.from a.place))) ≤ length r.args.area.now = r.requires.place_in_bounds in it)) in it))) ∙ r.packed_length-w.ensures in it), r.requires.k_bound.0))
 
 -- ---- the needs
 pub loop-left-init : goal.loop-left-init
 loop-left-init c =
     let a = c.args in
-    (rw c.packed_length-w.ensures c.requires.k_bound.1, c.requires.k_bound.2, grown-start a.area.now a.at _)
+    (rw c.packed_length-w.ensures c.requires.k_bound.1, c.requires.k_bound.2, grown_start a.area.now a.at _)
 
 pub read_prefix-prefix-requires : goal.read_prefix-prefix-requires
 read_prefix-prefix-requires c =
-    (omega (arith, c.packed_length-w.ensures, c.requires.k_bound.0), omega (arith, area-length c, (room c).0, within c))
+    (omega (arith, c.packed_length-w.ensures, c.requires.k_bound.0), omega (arith, area_length c, (room c).0, within c))
 
 pub overflow_add-source : goal.overflow_add-source
 overflow_add-source c =
@@ -93,7 +93,7 @@ loop-left-preserved c =
     let l = c.loop-left in (
       (room (goal.at.loop-left-preserved c).In-loop-left).1,
       omega (arith, l.invariant.1, c.loop-left-test.true),
-      grown-fitting a.area.now a.at l.area l.here (piece (goal.at.loop-left-preserved c).After-reaches-kept) (others (goal.at.loop-left-preserved c).In-loop-left) (whole (goal.at.loop-left-preserved c).In-loop-left) (turn (goal.at.loop-left-preserved c).After-reaches-kept) (whole_room (goal.at.loop-left-preserved c).In-loop-left) _ _
+      grown_fitting a.area.now a.at l.area l.here (piece (goal.at.loop-left-preserved c).After-reaches-kept) (others (goal.at.loop-left-preserved c).In-loop-left) (whole (goal.at.loop-left-preserved c).In-loop-left) (turn (goal.at.loop-left-preserved c).After-reaches-kept) (whole_room (goal.at.loop-left-preserved c).In-loop-left) _ _
           (rw (same_bits (goal.at.loop-left-preserved c).After-read_prefix-prefix) at c.write_both_children-here.ensures.out_after) (rw (same_bits (goal.at.loop-left-preserved c).After-read_prefix-prefix) at c.write_both_children-here.ensures.value),
     )
 
@@ -101,11 +101,11 @@ pub shape_of-area : goal.shape_of-area
 shape_of-area c =
     let l = c.loop-left in
     let a = c.args in
-    grown-length a.area.now a.at l.area l.here _ _ l.invariant.2
+    grown_length a.area.now a.at l.area l.here _ _ l.invariant.2
 
 pub returns : goal.returns
 returns c =
     let l = c.loop-left in
     let a = c.args in
-    grown-end a.area.now a.at l.area l.here _
-    (rw (children-none (reaches_by a.rule) a.k a.area.now l.left l.source (numbers_at l.left l.total a.area.now) c.loop-left-test.false) at l.invariant.2)
+    grown_end a.area.now a.at l.area l.here _
+    (rw (children_none (reaches_by a.rule) a.k a.area.now l.left l.source (numbers_at l.left l.total a.area.now) c.loop-left-test.false) at l.invariant.2)

@@ -8,11 +8,11 @@ use mathlib.Core.Bool.{cond}
 use mathlib.Core.List.{List, [], ◌++◌}
 use lib.ListN.{length, take, drop}
 use Rattle.bits.specs.Packing.{packed_length, pack, unpack}
-use Rattle.places.proofs.Places.{Grown, grown-start, grown-end}
+use Rattle.places.proofs.Places.{Grown, grown_start, grown_end}
 use Rattle.query.specs.Query.{packs, parts}
 use Rattle.query.specs.Prefix as prefix
-use Rattle.query.proofs.Pieces.{next-room, numbers_at, grown-fitting, grown-length}
-use Rattle.kept.proofs.Onward.{list-none}
+use Rattle.query.proofs.Pieces.{next_room, numbers_at, grown_fitting, grown_length}
+use Rattle.kept.proofs.Onward.{list_none}
 use Rattle.kept.specs.Kept.{reaches_by}
 use Rattle.tree.proofs.Levels.{reaching_at, Packed}
 use Rattle.levels.proofs.Pieces.{packed_step, list_at}
@@ -38,7 +38,7 @@ whole i = let a = i.args in packs (reaching_at (reaches_by a.rule) a.k a.area.no
 room : (i : In-loop-left)
     → (i.loop-left.source + width i ≤ length i.args.area.now)
     × (i.loop-left.source + width i + (i.loop-left.left - 1) * width i ≤ length i.args.area.now)
-room i = let l = i.loop-left in next-room l.left (width i) l.source (length i.args.area.now) i.loop-left-test.true l.invariant.0
+room i = let l = i.loop-left in next_room l.left (width i) l.source (length i.args.area.now) i.loop-left-test.true l.invariant.0
 
 whole_room : (i : In-loop-left) → 0 + length (whole i) ≤ length i.args.list.now
 whole_room i = rw (zero-add (length (whole i))) i.requires.place_in_bounds
@@ -62,13 +62,13 @@ turn k =
     let l = k.loop-left in
     let h : l.total + 8 ≤ length a.area.now = omega (arith, l.invariant.1, k.loop-left-test.true) in
     rw (← list_at (reaches_by a.rule) a.k a.area.now (k.packed_length-w.result) k.packed_length-w.ensures l.left l.source l.total k.loop-left-test.true h
-    k.reaches-kept.result (k.reaches-kept.ensures ∙ ap (reaches_by a.rule) k.read_le8.ensures) (let it : (k.loop-left.source + (k.packed_length-w.result) ≤ length k.args.area.now) × (k.loop-left.source + (k.packed_length-w.result) + (k.loop-left.left - 1) * (k.packed_length-w.result) ≤ length k.args.area.now) = let l = k.loop-left in next-room l.left (k.packed_length-w.result) l.source (length k.args.area.now) k.loop-left-test.true l.invariant.0 in it).0 (let it : (pack (unpack k.args.k (take (k.packed_length-w.result) (drop k.loop-left.source k.args.area.now))) ≡ (take (k.packed_length-w.result) (drop k.loop-left.source k.args.area.now))) × Packed k.args.k (parts (packed_length k.args.k) (k.loop-left.left - 1) (drop (k.loop-left.source + (k.packed_length-w.result)) k.args.area.now)) = let l = k.loop-left in packed_step k.args.k (k.packed_length-w.result) k.packed_length-w.ensures k.args.area.now l.left l.source k.loop-left-test.true l.invariant.2 in it).0) l.invariant.3
+    k.reaches-kept.result (k.reaches-kept.ensures ∙ ap (reaches_by a.rule) k.read_le8.ensures) (let it : (k.loop-left.source + (k.packed_length-w.result) ≤ length k.args.area.now) × (k.loop-left.source + (k.packed_length-w.result) + (k.loop-left.left - 1) * (k.packed_length-w.result) ≤ length k.args.area.now) = let l = k.loop-left in next_room l.left (k.packed_length-w.result) l.source (length k.args.area.now) k.loop-left-test.true l.invariant.0 in it).0 (let it : (pack (unpack k.args.k (take (k.packed_length-w.result) (drop k.loop-left.source k.args.area.now))) ≡ (take (k.packed_length-w.result) (drop k.loop-left.source k.args.area.now))) × Packed k.args.k (parts (packed_length k.args.k) (k.loop-left.left - 1) (drop (k.loop-left.source + (k.packed_length-w.result)) k.args.area.now)) = let l = k.loop-left in packed_step k.args.k (k.packed_length-w.result) k.packed_length-w.ensures k.args.area.now l.left l.source k.loop-left-test.true l.invariant.2 in it).0) l.invariant.3
 
 -- ---- the needs
 pub loop-left-init : goal.loop-left-init
 loop-left-init c =
     let a = c.args in
-    (rw c.packed_length-w.ensures c.requires.k_in_bounds.0, c.requires.k_in_bounds.1, c.requires.packed, grown-start a.list.now 0 _)
+    (rw c.packed_length-w.ensures c.requires.k_in_bounds.0, c.requires.k_in_bounds.1, c.requires.packed, grown_start a.list.now 0 _)
 
 pub overflow_add-source : goal.overflow_add-source
 overflow_add-source c =
@@ -85,7 +85,7 @@ loop-left-preserved c =
       (room (goal.at.loop-left-preserved c).In-loop-left).1,
       omega (arith, l.invariant.1, c.loop-left-test.true),
       (packed (goal.at.loop-left-preserved c).In-loop-left).1,
-      grown-fitting a.list.now 0 l.list l.here (piece (goal.at.loop-left-preserved c).After-reaches-kept) (others (goal.at.loop-left-preserved c).In-loop-left) (whole (goal.at.loop-left-preserved c).In-loop-left) (turn (goal.at.loop-left-preserved c).After-reaches-kept) (whole_room (goal.at.loop-left-preserved c).In-loop-left) _ _
+      grown_fitting a.list.now 0 l.list l.here (piece (goal.at.loop-left-preserved c).After-reaches-kept) (others (goal.at.loop-left-preserved c).In-loop-left) (whole (goal.at.loop-left-preserved c).In-loop-left) (turn (goal.at.loop-left-preserved c).After-reaches-kept) (whole_room (goal.at.loop-left-preserved c).In-loop-left) _ _
           c.write_prefix-here.ensures.out_after c.write_prefix-here.ensures.value,
     )
 
@@ -93,11 +93,11 @@ pub shape_of-list : goal.shape_of-list
 shape_of-list c =
     let l = c.loop-left in
     let a = c.args in
-    grown-length a.list.now 0 l.list l.here _ _ l.invariant.3
+    grown_length a.list.now 0 l.list l.here _ _ l.invariant.3
 
 pub returns : goal.returns
 returns c =
     let l = c.loop-left in
     let a = c.args in
-    grown-end a.list.now 0 l.list l.here _
-    (rw (list-none (reaches_by a.rule) a.k a.area.now l.left l.source (numbers_at l.left l.total a.area.now) c.loop-left-test.false) at l.invariant.3)
+    grown_end a.list.now 0 l.list l.here _
+    (rw (list_none (reaches_by a.rule) a.k a.area.now l.left l.source (numbers_at l.left l.total a.area.now) c.loop-left-test.false) at l.invariant.3)

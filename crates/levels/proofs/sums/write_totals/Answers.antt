@@ -9,7 +9,7 @@ use Rattle.bits.specs.Strings.{Bits}
 use Rattle.kept.specs.Kept.{reaches_by}
 use Rattle.tree.specs.SearchRule.{is_kept}
 use Rattle.levels.specs.Levels.{total_of}
-use Rattle.levels.proofs.LevelTotals.{standing-start, standing-length, standing-end, next-inside, totals-room, standing-more}
+use Rattle.levels.proofs.LevelTotals.{standing_start, standing_length, standing_end, next_inside, totals_room, standing_more}
 use Rattle.levels.proofs.sums.write_totals.Goals as goal
 use Rattle.levels.proofs.sums.write_totals.Goals.{At-loop-left}
 
@@ -28,9 +28,9 @@ room : (l : At-loop-left) → 0 < l.loop-left.left
     × (length l.loop-left.area ≡ length l.args.area.now) × (l.args.place ≤ length l.args.area.now)
 room l h =
     let a = l.args in
-    let same = standing-length (total l) (kept l) a.k (width l) a.area.now a.count a.from a.place l.loop-left.invariant in (
-      (next-inside (total l) (kept l) a.k (width l) a.area.now a.count a.from a.place l.packed_length-w.ensures l.requires.1 l.loop-left.invariant h).0,
-      omega (arith, totals-room (total l) (kept l) a.k (width l) a.area.now a.count a.from a.place l.packed_length-w.ensures l.requires.1 l.loop-left.invariant h, same),
+    let same = standing_length (total l) (kept l) a.k (width l) a.area.now a.count a.from a.place l.loop-left.invariant in (
+      (next_inside (total l) (kept l) a.k (width l) a.area.now a.count a.from a.place l.packed_length-w.ensures l.requires.1 l.loop-left.invariant h).0,
+      omega (arith, totals_room (total l) (kept l) a.k (width l) a.area.now a.count a.from a.place l.packed_length-w.ensures l.requires.1 l.loop-left.invariant h, same),
       same,
       omega (arith, l.requires.1),
     )
@@ -40,7 +40,7 @@ pub loop-left-init : goal.loop-left-init
 loop-left-init c =
     let a = c.args in
     let T = total_of a.e a.n a.seeds0.now a.shares0.now a.seeds1.now a.shares1.now in
-    standing-start T (is_kept (reaches_by a.rule) T) a.k c.packed_length-w.result a.area.now a.count a.from a.place c.packed_length-w.ensures c.requires.1 c.requires.0 c.requires.2
+    standing_start T (is_kept (reaches_by a.rule) T) a.k c.packed_length-w.result a.area.now a.count a.from a.place c.packed_length-w.ensures c.requires.1 c.requires.0 c.requires.2
 
 pub write_total_pair-kept-requires : goal.write_total_pair-kept-requires
 write_total_pair-kept-requires c =
@@ -50,7 +50,7 @@ write_total_pair-kept-requires c =
 pub overflow_add-kept : goal.overflow_add-kept
 overflow_add-kept c =
     let a = c.args in
-    let next = standing-more (total (goal.at.overflow_add-kept c).At-loop-left) (kept (goal.at.overflow_add-kept c).At-loop-left) a.k (width (goal.at.overflow_add-kept c).At-loop-left) a.area.now a.count a.from a.place c.packed_length-w.ensures c.requires.1 c.loop-left.invariant
+    let next = standing_more (total (goal.at.overflow_add-kept c).At-loop-left) (kept (goal.at.overflow_add-kept c).At-loop-left) a.k (width (goal.at.overflow_add-kept c).At-loop-left) a.area.now a.count a.from a.place c.packed_length-w.ensures c.requires.1 c.loop-left.invariant
     (omega (arith, c.loop-left-test.true)) c.write_total_pair-kept.ensures.area_after c.write_total_pair-kept.ensures.value in
     omega (arith, next.fewer, c.ranges.count)
 
@@ -72,15 +72,15 @@ overflow_sub-left c = omega (arith, c.loop-left.invariant.paired)
 pub loop-left-preserved : goal.loop-left-preserved
 loop-left-preserved c =
     let a = c.args in
-    standing-more (total (goal.at.loop-left-preserved c).At-loop-left) (kept (goal.at.loop-left-preserved c).At-loop-left) a.k (width (goal.at.loop-left-preserved c).At-loop-left) a.area.now a.count a.from a.place c.packed_length-w.ensures c.requires.1 c.loop-left.invariant
+    standing_more (total (goal.at.loop-left-preserved c).At-loop-left) (kept (goal.at.loop-left-preserved c).At-loop-left) a.k (width (goal.at.loop-left-preserved c).At-loop-left) a.area.now a.count a.from a.place c.packed_length-w.ensures c.requires.1 c.loop-left.invariant
     (omega (arith, c.loop-left-test.true)) c.write_total_pair-kept.ensures.area_after c.write_total_pair-kept.ensures.value
 
 pub shape_of-area : goal.shape_of-area
 shape_of-area c =
     let a = c.args in
-    standing-length (total (goal.at.shape_of-area c).At-loop-left) (kept (goal.at.shape_of-area c).At-loop-left) a.k (width (goal.at.shape_of-area c).At-loop-left) a.area.now a.count a.from a.place c.loop-left.invariant
+    standing_length (total (goal.at.shape_of-area c).At-loop-left) (kept (goal.at.shape_of-area c).At-loop-left) a.k (width (goal.at.shape_of-area c).At-loop-left) a.area.now a.count a.from a.place c.loop-left.invariant
 
 pub returns : goal.returns
 returns c =
     let a = c.args in
-    let both = standing-end (total (goal.at.returns c).At-loop-left) (kept (goal.at.returns c).At-loop-left) a.k (width (goal.at.returns c).At-loop-left) a.area.now a.count a.from a.place c.loop-left.invariant (omega arith) in record { area_after = both.0; value = both.1 }
+    let both = standing_end (total (goal.at.returns c).At-loop-left) (kept (goal.at.returns c).At-loop-left) a.k (width (goal.at.returns c).At-loop-left) a.area.now a.count a.from a.place c.loop-left.invariant (omega arith) in record { area_after = both.0; value = both.1 }

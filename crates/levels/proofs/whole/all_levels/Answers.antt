@@ -10,7 +10,7 @@ use Rattle.places.specs.Places.{put_at}
 use Rattle.query.specs.Query.{query, children}
 use Rattle.tree.specs.SearchRule as rule
 use Rattle.levels.specs.Levels.{total_of}
-use Rattle.levels.proofs.Opening.{first-refused, first-asked, first-answered}
+use Rattle.levels.proofs.Opening.{first_refused, first_asked, first_answered}
 use Rattle.levels.proofs.whole.all_levels.Goals as goal
 use Rattle.levels.proofs.whole.all_levels.Goals.{After-write_first, Start}
 
@@ -26,15 +26,15 @@ begun w =
 pub returns-then-area : goal.returns-then-area
 returns-then-area c =
     let a = c.args in
-    first-refused (reaches_by a.rule) (total (goal.at.returns-then-area c).Start) (length a.seeds0.now / 16) a.n c.requires.0 a.area.now a.list.now (omega (arith, c.if-area.true))
+    first_refused (reaches_by a.rule) (total (goal.at.returns-then-area c).Start) (length a.seeds0.now / 16) a.n c.requires.0 a.area.now a.list.now (omega (arith, c.if-area.true))
 
 pub descend-requires : goal.descend-requires
 descend-requires c =
     let a = c.args in
-    rw c.write_heading-at.ensures.value (let both = first-asked (reaches_by a.rule) (total (goal.at.descend-requires c).Start) (length a.seeds0.now / 16) a.n c.requires.0 a.area.now a.list.now c.if-area.false _ (begun (goal.at.descend-requires c).After-write_first) c.requires.1 in record { k_le_n = both.0; packed = both.1 })
+    rw c.write_heading-at.ensures.value (let both = first_asked (reaches_by a.rule) (total (goal.at.descend-requires c).Start) (length a.seeds0.now / 16) a.n c.requires.0 a.area.now a.list.now c.if-area.false _ (begun (goal.at.descend-requires c).After-write_first) c.requires.1 in record { k_le_n = both.0; packed = both.1 })
 
 pub returns : goal.returns
 returns c =
     let a = c.args in
-    first-answered (reaches_by a.rule) (total (goal.at.returns c).Start) (length a.seeds0.now / 16) a.n c.requires.0 a.area.now a.list.now c.if-area.false _ (begun (goal.at.returns c).After-write_first) _ _ _ _ _
+    first_answered (reaches_by a.rule) (total (goal.at.returns c).Start) (length a.seeds0.now / 16) a.n c.requires.0 a.area.now a.list.now c.if-area.false _ (begun (goal.at.returns c).After-write_first) _ _ _ _ _
     (rw c.write_heading-at.ensures.value at c.descend.ensures)

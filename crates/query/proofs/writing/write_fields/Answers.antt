@@ -6,7 +6,7 @@ use mathlib.Core.List.{List, ◌++◌}
 use lib.ListN.{length}
 use Rattle.numbers.specs.Numbers.{big}
 use Rattle.places.specs.Places.{put_at}
-use Rattle.places.proofs.Places.{put_at-outside, put_at-more}
+use Rattle.places.proofs.Places.{put_at_outside, put_at_more}
 use Rattle.places.proofs.Inside.{inside, outside}
 use Rattle.query.proofs.writing.write_fields.Goals as goal
 use Rattle.query.proofs.writing.write_fields.Goals.{Else-not-within}
@@ -19,7 +19,7 @@ pub returns-then-not-within : goal.returns-then-not-within
 unfolding big
 returns-then-not-within c =
     let a = c.args in
-    sym (put_at-outside a.out.now a.at (big 2 a.k ++ big 4 a.count) (outside _ _ _ _ c.within.ensures c.if-not-within.true-raw))
+    sym (put_at_outside a.out.now a.at (big 2 a.k ++ big 4 a.count) (outside _ _ _ _ c.within.ensures c.if-not-within.true-raw))
 
 pub overflow_add-at : goal.overflow_add-at
 overflow_add-at c = omega (arith, room (goal.at.overflow_add-at c).Else-not-within)
@@ -32,4 +32,4 @@ returns c =
     let h = room (goal.at.returns c).Else-not-within in
     c.write_be4.ensures
     ∙ ap (λ (l : List ℕ). put_at l (a.at + 2) (big 4 a.count)) first.ensures
-    ∙ put_at-more a.out.now a.at (big 2 a.k) (big 4 a.count) (omega arith)
+    ∙ put_at_more a.out.now a.at (big 2 a.k) (big 4 a.count) (omega arith)

@@ -9,8 +9,8 @@ use borrow.Author.Tests.{not-true, not-false}
 use Rattle.group.specs.Modular.{p}
 use Rattle.point.specs.PublicShare.{public_share_length, payloads_below, spare_bits_zero}
 use Rattle.report_sums.specs.Reports.{public_share_at}
-use Rattle.walk.proofs.PublicTests.{every-none, every_more}
-use Rattle.report_sums.proofs.ReportChecks.{report-room, share_part, one-fails, all-passed}
+use Rattle.walk.proofs.PublicTests.{every_none, every_more}
+use Rattle.report_sums.proofs.ReportChecks.{report_room, share_part, one_fails, all_passed}
 use Rattle.report_sums.proofs.checks.all_pass.Goals as goal
 use Rattle.report_sums.proofs.checks.all_pass.Goals.{In-loop-i}
 
@@ -26,12 +26,12 @@ room : (c : In-loop-i) →
     ≤ length c.args.shares.now
 room c =
     let a = c.args in
-    report-room a.n a.reports a.shares.now c.public_share_length-size.ensures c.report_count-count.ensures c.loop-i-test.true
+    report_room a.n a.reports a.shares.now c.public_share_length-size.ensures c.report_count-count.ensures c.loop-i-test.true
 
 pub loop-i-init : goal.loop-i-init
 loop-i-init c =
     let a = c.args in
-    (omega arith, every-none (passes a.payloads a.n a.shares.now))
+    (omega arith, every_none (passes a.payloads a.n a.shares.now))
 
 pub overflow_mul-size : goal.overflow_mul-size
 overflow_mul-size c = omega (arith, room c)
@@ -42,7 +42,7 @@ passes_at-requires c = room c
 pub returns-then-not-passes_at : goal.returns-then-not-passes_at
 returns-then-not-passes_at c =
     let a = c.args in
-    one-fails (min a.reports (length a.shares.now / public_share_length a.n)) (passes a.payloads a.n a.shares.now) c.report_count-count.ensures
+    one_fails (min a.reports (length a.shares.now / public_share_length a.n)) (passes a.payloads a.n a.shares.now) c.report_count-count.ensures
     c.loop-i-test.true
     (ap (test a.payloads a.n) (share_part a.n a.shares.now c.loop-i.i c.public_share_length-size.ensures)
     ∙ sym c.passes_at.ensures ∙ not-true _ c.if-not-passes_at.true-raw)
@@ -59,5 +59,5 @@ loop-i-preserved c =
 pub returns : goal.returns
 returns c =
     let a = c.args in
-    all-passed (min a.reports (length a.shares.now / public_share_length a.n)) (passes a.payloads a.n a.shares.now) c.report_count-count.ensures
+    all_passed (min a.reports (length a.shares.now / public_share_length a.n)) (passes a.payloads a.n a.shares.now) c.report_count-count.ensures
     c.loop-i.invariant.0 c.loop-i-test.false c.loop-i.invariant.1

@@ -4,7 +4,7 @@ use native.Mathlib.Omega.{arith}
 use lib.ListN.{length}
 use Rattle.bits.specs.Packing.{bits_of}
 use Rattle.point.specs.Evaluation.{bit_of}
-use Rattle.report_sums.proofs.Lent.{share-inside, lent-part}
+use Rattle.report_sums.proofs.Lent.{share_inside, lent_part}
 use Rattle.report_sums.proofs.reports.lent_shares.Goals as goal
 use Rattle.report_sums.proofs.reports.lent_shares.Goals.{After-public_share_length-length}
 
@@ -13,7 +13,7 @@ room : (c : After-public_share_length-length) → c.public_share_length-length.r
     ≤ length c.args.shares.now
 room c =
     let a = c.args in
-    share-inside a.n a.seeds.now a.shares.now a.i c.requires c.public_share_length-length.ensures
+    share_inside a.n a.seeds.now a.shares.now a.i c.requires c.public_share_length-length.ensures
 
 pub overflow_mul-start : goal.overflow_mul-start
 overflow_mul-start c = omega (arith, room c)
@@ -28,8 +28,8 @@ pub returns : goal.returns
 returns c =
     let a = c.args in
     record {
-      first_value = lent-part a.n a.seeds.now a.shares.now a.i c.requires a.e a.b (bit_of (bits_of a.first.now)) a.k
+      first_value = lent_part a.n a.seeds.now a.shares.now a.i c.requires a.e a.b (bit_of (bits_of a.first.now)) a.k
           c.public_share_length-length.ensures c.read16-seed.ensures c.shares_at.ensures.first_value;
-      second_value = lent-part a.n a.seeds.now a.shares.now a.i c.requires a.e a.b (bit_of (bits_of a.second.now)) a.k
+      second_value = lent_part a.n a.seeds.now a.shares.now a.i c.requires a.e a.b (bit_of (bits_of a.second.now)) a.k
           c.public_share_length-length.ensures c.read16-seed.ensures c.shares_at.ensures.second_value;
     }

@@ -8,7 +8,7 @@ use Rattle.bits.specs.Packing.{bits_of}
 use Rattle.group.specs.Modular.{field}
 use Rattle.point.specs.Evaluation.{bit_of}
 use Rattle.report_sums.specs.Reports.{counts, sum_where, lent_share, server_sum}
-use Rattle.report_sums.proofs.Lent.{sum-none, sum_more}
+use Rattle.report_sums.proofs.Lent.{sum_none, sum_more}
 use Rattle.report_sums.proofs.reports.server_sums.Goals as goal
 use Rattle.report_sums.proofs.reports.server_sums.Goals.{Start}
 
@@ -19,7 +19,7 @@ part s prefix = lent_share s.args.e s.args.n s.args.b s.args.seeds.now s.args.sh
 pub loop-left-init : goal.loop-left-init
 loop-left-init c =
     let test = counts c.args.marks.now in
-    (sum-none test (part (goal.at.loop-left-init c).Start c.args.first.now), sum-none test (part (goal.at.loop-left-init c).Start c.args.second.now), omega arith)
+    (sum_none test (part (goal.at.loop-left-init c).Start c.args.first.now), sum_none test (part (goal.at.loop-left-init c).Start c.args.second.now), omega arith)
 
 pub with_report-sums-requires : goal.with_report-sums-requires
 with_report-sums-requires c = omega (arith, c.report_count-left.ensures)

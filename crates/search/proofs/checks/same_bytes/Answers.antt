@@ -1,7 +1,7 @@
 -- `search::checks::same_bytes` meets its contract. The loop's invariant: what is left decides. The measure is what is left.
 use native.Mathlib.Omega.{arith}
 use mathlib.Core.Path.{refl, sym, ◌∙◌}
-use Rattle.search.proofs.Judging.{other_length, same_here, other-here, same_end}
+use Rattle.search.proofs.Judging.{other_length, same_here, other_here, same_end}
 use Rattle.search.proofs.checks.same_bytes.Goals as goal
 
 pub returns-then-a-b : goal.returns-then-a-b
@@ -14,7 +14,7 @@ pub returns-then-a-i : goal.returns-then-a-i
 returns-then-a-i c =
     let a = c.args in
     let l = c.loop-i in
-    sym (l.invariant.2 ∙ other-here a.a.now a.b.now l.i (omega arith) (omega arith) c.if-a-i.true)
+    sym (l.invariant.2 ∙ other_here a.a.now a.b.now l.i (omega arith) (omega arith) c.if-a-i.true)
 
 pub loop-i-preserved : goal.loop-i-preserved
 loop-i-preserved c =

@@ -1,7 +1,7 @@
 use Rattle.std.proofs.Common.{◌≡◌, ℕ, Bool, ◌&&◌, ltb, ◌∙◌, ap, arith}
 use Rattle.group.specs.Modular.{p}
 use Rattle.nodes.specs.NodeLayout.{correction_of}
-use Rattle.walk.proofs.PublicTests.{below, below-none, below_more, below-all}
+use Rattle.walk.proofs.PublicTests.{below, below_none_lem, below_more, below_all_lem}
 use Rattle.walk.proofs.checks.payloads_below.Goals as goal
 
 pub loop-reader-init : goal.loop-reader-init
@@ -11,7 +11,7 @@ loop-reader-init c =
       share = cc;
       levels = made.1;
       next = omega (arith, made.2);
-      tested = rw made.2 (below-none c.args.n c.args.share.now);
+      tested = rw made.2 (below_none_lem c.args.n c.args.share.now);
     }
 
 pub loop-reader-preserved : goal.loop-reader-preserved
@@ -32,4 +32,4 @@ loop-reader-preserved c =
 pub returns : goal.returns
 returns c =
     let all : c.loop-reader.reader.next ≡ c.args.n = omega (arith, c.loop-reader.invariant.next) in
-    c.loop-reader.invariant.tested ∙ ap (λ (k : ℕ). below c.args.n c.args.share.now k) all ∙ below-all c.args.n c.args.share.now
+    c.loop-reader.invariant.tested ∙ ap (λ (k : ℕ). below c.args.n c.args.share.now k) all ∙ below_all_lem c.args.n c.args.share.now

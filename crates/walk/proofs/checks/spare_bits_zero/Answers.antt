@@ -1,14 +1,14 @@
 -- `walk::checks::spare_bits_zero` meets its contract.
 use mathlib.Core.Path.{sym}
-use Rattle.walk.proofs.PublicTests.{spare-full, spare-last}
+use Rattle.walk.proofs.PublicTests.{spare_full, spare_last}
 use Rattle.walk.proofs.checks.spare_bits_zero.Goals as goal
 
 pub returns-then-m-eq0 : goal.returns-then-m-eq0
 returns-then-m-eq0 c =
     let a = c.args in
-    sym (spare-full a.n a.share.now c.if-m-eq0.true)
+    sym (spare_full a.n a.share.now c.if-m-eq0.true)
 
 pub returns : goal.returns
 returns c =
     let a = c.args in
-    rw c.byte_at.ensures (sym (spare-last a.n a.share.now c.if-m-eq0.false))
+    rw c.byte_at.ensures (sym (spare_last a.n a.share.now c.if-m-eq0.false))

@@ -2,15 +2,15 @@ use native.Mathlib.Omega.{arith}
 use Rattle.point.specs.PublicShare.{read_correction}
 use Rattle.bits.specs.Packing.{bits_of}
 use Rattle.point.specs.Evaluation.{bit_of}
-use Rattle.walk.proofs.Descent.{node-root, node-level}
+use Rattle.walk.proofs.Descent.{node_root, node_level}
 use Rattle.walk.proofs.pairs.+node_at.Goals as goal
 
 pub returns-then-k-eq0 : goal.returns-then-k-eq0
 returns-then-k-eq0 t c =
     let a = c.args in
-    node-root a.e (read_correction a.n a.bytes.now) a.seed a.b (bit_of (bits_of a.prefix.now)) a.k c.if-k-eq0.true
+    node_root a.e (read_correction a.n a.bytes.now) a.seed a.b (bit_of (bits_of a.prefix.now)) a.k c.if-k-eq0.true
 
 pub returns : goal.returns
 returns t c =
     let a = c.args in
-    node-level a.e (read_correction a.n a.bytes.now) a.seed a.b (bit_of (bits_of a.prefix.now)) a.k (omega arith) c.read_level-level.ensures.0 c.bit_at.ensures c.node_at-m.ensures c.descend.ensures
+    node_level a.e (read_correction a.n a.bytes.now) a.seed a.b (bit_of (bits_of a.prefix.now)) a.k (omega arith) c.read_level-level.ensures.0 c.bit_at.ensures c.node_at-m.ensures c.descend.ensures

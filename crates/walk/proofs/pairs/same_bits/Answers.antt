@@ -4,7 +4,7 @@ use Prim.Native.Nat.{ℕ}
 use native.Mathlib.Omega.{arith}
 use Rattle.bits.specs.Packing.{bits_of}
 use Rattle.point.specs.Evaluation.{bit_of}
-use Rattle.walk.proofs.Siblings.{same_none, same-all, same_more, same_not}
+use Rattle.walk.proofs.Siblings.{same_none, same_all, same_more, same_not}
 use Rattle.walk.proofs.pairs.same_bits.Goals as goal
 
 pub loop-from-init : goal.loop-from-init
@@ -23,4 +23,4 @@ loop-from-preserved c =
 
 pub returns : goal.returns
 returns c =
-    let a = c.args in record { below = (λ e. same-all (bit_of (bits_of a.first.now)) (bit_of (bits_of a.second.now)) a.k c.loop-from.from c.loop-from-test.false c.loop-from.invariant.1); fact = (λ e. let z : ◌≡◌ {A = ℕ} 0 1 = cc in absurd (omega arith)) }
+    let a = c.args in record { below = (λ e. same_all (bit_of (bits_of a.first.now)) (bit_of (bits_of a.second.now)) a.k c.loop-from.from c.loop-from-test.false c.loop-from.invariant.1); fact = (λ e. let z : ◌≡◌ {A = ℕ} 0 1 = cc in absurd (omega arith)) }

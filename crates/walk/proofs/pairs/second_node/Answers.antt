@@ -1,13 +1,13 @@
 -- `walk::pairs::second_node` meets its contract. A node depends on the bits above it alone.
 use mathlib.Core.Path.{refl, ◌∙◌}
 use Rattle.point.specs.Instance.{scheme}
-use Rattle.point.proofs.Local.{node-local}
+use Rattle.point.proofs.Local.{node_local}
 use Rattle.walk.proofs.pairs.second_node.Goals as goal
 
 pub returns-then-same_bits : goal.returns-then-same_bits
 returns-then-same_bits c =
     let a = c.args in
-    c.requires ∙ node-local (scheme a.e) a.seed a.b a.k (λ i l. refl) (c.same_bits.ensures.below c.if-same_bits.true)
+    c.requires ∙ node_local (scheme a.e) a.seed a.b a.k (λ i l. refl) (c.same_bits.ensures.below c.if-same_bits.true)
 
 pub returns : goal.returns
 returns c = c.node_at.ensures

@@ -8,7 +8,7 @@ use Rattle.group.specs.Modular.{p}
 use Rattle.point.specs.Node.{payload_of}
 use Rattle.point.specs.Instance.{field_scheme, scheme}
 use Rattle.nodes.specs.NodeLayout.{node_of}
-use Rattle.walk.proofs.Descent.{payload-on, payload-off}
+use Rattle.walk.proofs.Descent.{payload_on, payload_off}
 use Rattle.walk.proofs.steps.corrected_payload.Goals as goal
 use Rattle.walk.proofs.steps.corrected_payload.Goals.{After-draw-w}
 
@@ -20,9 +20,9 @@ drawn c = c.draw-w.ensures.0 ∙ ap (λ (b : List ℕ). from_little (take 8 b) %
 pub returns-then-m : goal.returns-then-m
 returns-then-m c =
     let a = c.args in
-    payload-on a.e a.v (node_of a.m) (drawn (goal.at.returns-then-m c).After-draw-w) c.if-m.true c.add.ensures.0
+    payload_on a.e a.v (node_of a.m) (drawn (goal.at.returns-then-m c).After-draw-w) c.if-m.true c.add.ensures.0
 
 pub returns-else-m : goal.returns-else-m
 returns-else-m c =
     let a = c.args in
-    payload-off a.e a.v (node_of a.m) (drawn (goal.at.returns-else-m c).After-draw-w) c.if-m.false
+    payload_off a.e a.v (node_of a.m) (drawn (goal.at.returns-else-m c).After-draw-w) c.if-m.false

@@ -4,7 +4,7 @@ use mathlib.Core.List.{List}
 use Prim.Native.Nat.{ℕ}
 use Rattle.aes.specs.Fips197.{sum_word, rot_word}
 use Rattle.aes.specs.StateLayout.{word_of}
-use Rattle.aes.proofs.Columns.{mixed-word}
+use Rattle.aes.proofs.Columns.{mixed_word}
 use Rattle.aes.proofs.word.Word.mix_column.Goals as goal
 
 pub returns : goal.returns
@@ -16,4 +16,4 @@ returns c =
     let next = c.rot_word-next.ensures ∙ ap rot_word (c.plus.ensures ∙ ap (λ (v : List ℕ). sum_word v w) twice) in
     c.plus-4.ensures
     ∙ ap₂ sum_word (c.plus-3.ensures ∙ ap₂ sum_word (c.plus-2.ensures ∙ ap₂ sum_word twice next) third) fourth
-    ∙ mixed-word c.args.self.bits
+    ∙ mixed_word c.args.self.bits
