@@ -26,13 +26,15 @@ all_well c =
 few : (c : After-count_kept-kept) → c.count_kept-kept.result ≤ limit
 few c =
     let a = c.args in
-    let r = (let it : Ready c.args.n c.args.weighted c.args.t c.args.query.now c.args.share0.now c.args.share1.now = let a = c.args in ready a.n a.weighted a.t a.query.now a.share0.now a.share1.now (sym c.first_cause-number.ensures ∙ c.if-number-ne0.false) in it) in
+    let r : Ready a.n a.weighted a.t a.query.now a.share0.now a.share1.now =
+    ready a.n a.weighted a.t a.query.now a.share0.now a.share1.now (sym c.first_cause-number.ensures ∙ c.if-number-ne0.false) in
     omega (arith, c.count_kept-kept.ensures.1, r.first, (query-ready a.n a.query.now r.a_query_lem).not_more)
 
 short : (c : After-count_kept-kept) → c.prefix_length-len.result ≤ 256
 short c =
     let a = c.args in
-    let r = (let it : Ready c.args.n c.args.weighted c.args.t c.args.query.now c.args.share0.now c.args.share1.now = let a = c.args in ready a.n a.weighted a.t a.query.now a.share0.now a.share1.now (sym c.first_cause-number.ensures ∙ c.if-number-ne0.false) in it) in
+    let r : Ready a.n a.weighted a.t a.query.now a.share0.now a.share1.now =
+    ready a.n a.weighted a.t a.query.now a.share0.now a.share1.now (sym c.first_cause-number.ensures ∙ c.if-number-ne0.false) in
     omega (arith, c.prefix_length-len.ensures.0, r.not_longer, (query-ready a.n a.query.now r.a_query_lem).not_longer)
 
 -- the bytes of a child, and of all of them
@@ -41,7 +43,12 @@ child c = c.packed_length-2.ensures ∙ ap packed_length (omega arith)
 
 next_few : (c : After-packed_length-2) → 2 * c.count_kept-kept.result * c.packed_length-2.result ≤ 1073725440
 next_few c =
-    few_bytes (2 * c.count_kept-kept.result) c.packed_length-2.result (omega (arith, c.if-kept-gt65535.false)) (omega (arith, (let it : c.prefix_length-len.result ≤ 256 = let a = c.args in let r = (let it : Ready c.args.n c.args.weighted c.args.t c.args.query.now c.args.share0.now c.args.share1.now = let a = c.args in ready a.n a.weighted a.t a.query.now a.share0.now a.share1.now (sym c.first_cause-number.ensures ∙ c.if-number-ne0.false) in it) in omega (arith, c.prefix_length-len.ensures.0, r.not_longer, (query-ready a.n a.query.now r.a_query_lem).not_longer) in it), c.packed_length-2.ensures))
+    let a = c.args in
+    let r : Ready a.n a.weighted a.t a.query.now a.share0.now a.share1.now =
+    ready a.n a.weighted a.t a.query.now a.share0.now a.share1.now (sym c.first_cause-number.ensures ∙ c.if-number-ne0.false) in
+    let fits : c.prefix_length-len.result ≤ 256 =
+    omega (arith, c.prefix_length-len.ensures.0, r.not_longer, (query-ready a.n a.query.now r.a_query_lem).not_longer) in
+    few_bytes (2 * c.count_kept-kept.result) c.packed_length-2.result (omega (arith, c.if-kept-gt65535.false)) (omega (arith, fits, c.packed_length-2.ensures))
 
 -- ---- the needs
 pub returns-then-number-ne0 : goal.returns-then-number-ne0
@@ -70,11 +77,12 @@ write_kept-requires c =
     let a = c.args in
     let r = all_well (goal.at.write_kept-requires c).Else-number-ne0 in
     let q = query-ready a.n a.query.now r.a_query_lem in
+    let last : c.prefix_length-len.result ≡ a.n = omega arith in
     let size =
     list_bytes_lem a.n a.weighted a.t a.query.now a.share0.now a.share1.now a.out.now (byte (goal.at.write_kept-requires c).Else-number-ne0) (all_well (goal.at.write_kept-requires c).Else-number-ne0)
     c.count_kept-kept.result c.count_kept-kept.ensures.0 c.prefix_length-len.result c.prefix_length-len.ensures.0
-    c.if-len-n.true c.packed_length.result c.packed_length.ensures in
-    record { q_in_bounds = omega (arith, q.whole); q_value = q.no_spares; s0_len = (r.first, r.second); s1_in_bounds = omega (arith, size, c.if-out-list_size.false) }
+    last c.packed_length.result c.packed_length.ensures in
+    record { q_in_bounds = omega (arith, q.whole); q_value = q.no_spares; s0_len = (r.first, r.second); s1_in_bounds = omega (arith, size) }
 
 pub returns-then-len-n : goal.returns-then-len-n
 returns-then-len-n c =
@@ -122,7 +130,7 @@ write_kept-requires-2 c =
     let size =
     children_bytes a.n a.weighted a.t a.query.now a.share0.now a.share1.now a.out.now (byte (goal.at.write_kept-requires-2 c).Else-number-ne0) (all_well (goal.at.write_kept-requires-2 c).Else-number-ne0)
     c.count_kept-kept.result c.count_kept-kept.ensures.0 c.prefix_length-len.result c.prefix_length-len.ensures.0
-    c.if-len-n.false c.if-kept-lt1.false c.packed_length-2.result (child (goal.at.write_kept-requires-2 c).After-packed_length-2) in record { q_in_bounds = omega (arith, (query-ready a.n a.query.now r.a_query_lem).whole); q_value = (query-ready a.n a.query.now r.a_query_lem).no_spares; s0_len = (r.first, r.second); s1_in_bounds = omega (arith, size, c.if-out-next_size.false, simp put_at_length at (ap length h.ensures)) }
+    c.if-len-n.false c.if-kept-lt1.false c.packed_length-2.result (child (goal.at.write_kept-requires-2 c).After-packed_length-2) in record { q_in_bounds = omega (arith, (query-ready a.n a.query.now r.a_query_lem).whole); q_value = (query-ready a.n a.query.now r.a_query_lem).no_spares; s0_len = (r.first, r.second); s1_in_bounds = omega (arith, size, simp put_at_length at (ap length h.ensures)) }
 
 pub returns : goal.returns
 returns c =

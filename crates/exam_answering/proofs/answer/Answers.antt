@@ -4,6 +4,7 @@ use mathlib.Core.Bool.{true, false}
 use mathlib.Core.List.{List}
 use Prim.Native.Nat.{ℕ, ◌≤◌}
 use native.Mathlib.Omega.{arith}
+use borrow.Author.Rules.{rules}
 use borrow.Author.Tests.{not-true, not-false, ltb-true, ltb-false}
 use lib.ListN.{length}
 use Rattle.calls.specs.Bounds.{most_threshold, outside}
@@ -70,10 +71,13 @@ returns-then-not-is_sheet c =
 
 pub returns-then-no_bits : goal.returns-then-no_bits
 returns-then-no_bits c =
-    let e = (goal.at.returns-then-no_bits c).Else-not-is_sheet in
+    let a = c.args in
+    let whole : c.read_sheet-sheet.result.is_sheet ≡ true = search rules in
+    let is_read : is_sheet a.text.now ≡ true = sym c.read_sheet-sheet.ensures.sheet ∙ whole in
+    let s = c.read_sheet-sheet.ensures.says whole in
     let less = ltb-true c.read_sheet-sheet.result.n 1 c.if-no_bits.true-raw in
-    let is = no_bits (text e) (length (out e)) (read e) (omega (arith, less, (says e).n_read)) in
-    refused_reply (text e) (out e) 1 _ is c.refusal-then-no_bits.ensures.0 c.refusal-then-no_bits.ensures.1
+    let is = no_bits a.text.now (length a.out.now) is_read (omega (arith, less, s.n_read)) in
+    refused_reply a.text.now a.out.now 1 _ is c.refusal-then-no_bits.ensures.0 c.refusal-then-no_bits.ensures.1
 
 pub returns-then-outside : goal.returns-then-outside
 returns-then-outside c =
@@ -87,8 +91,9 @@ pub returns-then-not-known : goal.returns-then-not-known
 returns-then-not-known c =
     let g = goal.at.returns-then-not-known c in
     let e = g.Else-not-is_sheet in
+    let within-most : c.threshold_outside-outside.result ≡ false = search rules in
     let unknown = sym (answered e) ∙ not-true _ c.if-not-known.true-raw in
-    let is = no_expander (text e) (length (out e)) (read e) (from e (some_bits g.Else-no_bits)) (to e) (inside e c.if-outside.false) unknown in
+    let is = no_expander (text e) (length (out e)) (read e) (from e (some_bits g.Else-no_bits)) (to e) (inside e within-most) unknown in
     refused_reply (text e) (out e) 3 _ is c.refusal-then-not-known.ensures.0 c.refusal-then-not-known.ensures.1
 
 pub solve-requires : goal.solve-requires

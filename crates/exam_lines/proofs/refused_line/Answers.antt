@@ -24,11 +24,11 @@ returns-then-out-size c =
     (exit_equal refl refl (sym (overlay_nil a.out.now)))
 
 pub write_refused-requires : goal.write_refused-requires
-write_refused-requires c = omega (arith, size (goal.at.write_refused-requires c).After-decimal_length-size, c.if-out-size.false)
+write_refused-requires c = omega (arith, size (goal.at.write_refused-requires c).After-decimal_length-size)
 
 pub returns : goal.returns
 unfolding refused_outcome
 returns c =
     let a = c.args in
-    rw (le-ltb (length a.out.now) (length (refused_text a.number)) (omega (arith, size (goal.at.returns c).After-decimal_length-size, c.if-out-size.false)))
+    rw (le-ltb (length a.out.now) (length (refused_text a.number)) (omega (arith, size (goal.at.returns c).After-decimal_length-size)))
     (exit_equal refl (size (goal.at.returns c).After-decimal_length-size) c.write_refused.ensures)

@@ -1,4 +1,5 @@
 -- `node_lists::query_cause` meets its contract.
+use borrow.Author.Rules.{rules}
 use mathlib.Core.Path.{◌≡◌, sym, ap, ◌∙◌}
 use mathlib.Core.Bool.{true, false}
 use Prim.Native.Nat.{ℕ, ◌*◌}
@@ -51,7 +52,8 @@ returns-then-few c =
 pub returns-then-missing : goal.returns-then-missing
 returns-then-missing c =
     let a = c.args in
-    let g : too_few_nodes a.reports a.last.now a.query.now a.count ≡ false = sym (few (goal.at.returns-then-missing c).After-prefix_count) ∙ c.if-few.false in
+    let enough : c.too_few_nodes-few.result ≡ false = search rules in
+    let g : too_few_nodes a.reports a.last.now a.query.now a.count ≡ false = sym (few (goal.at.returns-then-missing c).After-prefix_count) ∙ enough in
     let h : parent_missing a.last.now a.query.now ≡ true = sym (missing (goal.at.returns-then-missing c).After-prefix_count) ∙ c.if-missing.true in
     rw (last_query_lem (goal.at.returns-then-missing c).Else-not-is_last, new_query (goal.at.returns-then-missing c).Else-not-is_query, g, h)
 
