@@ -1,30 +1,13 @@
 // The exam program: an exam text on standard input, its answer on standard output.
 #![tactic(auto)]
 
-ghost use Rattle.std.specs.Prelude.{◌≤◌, ◌≡◌, IfErr, IfSome, IsErrOf, OnOk, length, take};
+ghost use Rattle.std.specs.Prelude.{◌≤◌, ◌≡◌, IfSome, IsErrOf, OnOk, length, take};
 ghost use Rattle.std.specs.Io.KnownBytes.{Appends, Keeps};
 ghost use Rattle.exam_answering.specs.Exam.{output, answer_space};
 ghost use Rattle.streams.specs.Prefix.{IsPrefixLen};
 
-use std::fmt;
 use std::io::{Read, Write};
-use streams::read_text;
-
-// Why no answer was written.
-#[derive(Clone, Copy)]
-enum Failure {
-    Unread,
-    Unwritten,
-}
-
-impl fmt::Display for Failure {
-    fn fmt<W: fmt::Write>(&self, f: &mut fmt::Formatter<W>) -> fmt::Result {
-        match self {
-            Failure::Unread => write!(f, "standard input cannot be read"),
-            Failure::Unwritten => write!(f, "standard output cannot be written"),
-        }
-    }
-}
+use streams::{Failure, put, read_text};
 
 // The whole output for an exam text at the beginning of `out`, and how many bytes it has.
 fn reply(text: &[u8], out: &mut [u8]) -> usize
@@ -33,17 +16,6 @@ fn reply(text: &[u8], out: &mut [u8]) -> usize
 {
     let reply = exam_answering::respond(text, out);
     reply.length as usize
-}
-
-// Writes bytes, or says that this failed.
-fn put<W: Write>(writer: &mut W, bytes: &[u8]) -> Result<(), Failure>
-    ensures ok { OnOk result (Appends (W.contents writer.old) (W.contents writer.new) bytes.now) }
-    ensures err { IfErr result (λ failure. failure ≡ Failure.Unwritten) }
-{
-    match writer.write_all(bytes) {
-        Ok(()) => Ok(()),
-        Err(_) => Err(Failure::Unwritten),
-    }
 }
 
 // Answers what a reader gives, on a writer. Where it is known which bytes the reader has left, the output is that for all of them, although

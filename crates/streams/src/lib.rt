@@ -1,17 +1,34 @@
-// What a reader gives, read into a lent space.
+// What a reader gives, read into a lent space, and what is written to a writer.
 #![tactic(auto)]
 
-ghost use Rattle.std.specs.Prelude.{◌+◌, ◌≤◌, ◌<◌, ◌≡◌, false, true, IfSome, length, take, drop};
-ghost use Rattle.std.specs.Io.KnownBytes.{Consumes, IsAtEnd};
+ghost use Rattle.std.specs.Prelude.{◌+◌, ◌≤◌, ◌<◌, ◌≡◌, false, true, IfErr, IfSome, OnOk, length, take, drop};
+ghost use Rattle.std.specs.Io.KnownBytes.{Appends, Consumes, IsAtEnd};
 ghost use Rattle.streams.specs.Prefix.{IsPrefixLen};
 
-use std::io::Read;
+use std::fmt;
+use std::io::{Read, Write};
 
 // How many bytes were read, and whether a read failed.
 #[derive(Drop)]
 pub struct Input {
     pub length: usize,
     pub failed: bool,
+}
+
+// Why a program wrote no answer.
+#[derive(Clone, Copy)]
+pub enum Failure {
+    Unread,
+    Unwritten,
+}
+
+impl fmt::Display for Failure {
+    fn fmt<W: fmt::Write>(&self, f: &mut fmt::Formatter<W>) -> fmt::Result {
+        match self {
+            Failure::Unread => write!(f, "standard input cannot be read"),
+            Failure::Unwritten => write!(f, "standard output cannot be written"),
+        }
+    }
 }
 
 // One read into the places from `done` on; the bytes before stay as they are. Where it is known which bytes the reader has left, these are
@@ -64,6 +81,17 @@ pub fn read_text<R: Read>(reader: &mut R, text: &mut [u8]) -> Input
     Input {
         length: done,
         failed: false,
+    }
+}
+
+// Writes bytes, or says that this failed.
+pub fn put<W: Write>(writer: &mut W, bytes: &[u8]) -> Result<(), Failure>
+    ensures ok { OnOk result (Appends (W.contents writer.old) (W.contents writer.new) bytes.now) }
+    ensures err { IfErr result (λ failure. failure ≡ Failure.Unwritten) }
+{
+    match writer.write_all(bytes) {
+        Ok(()) => Ok(()),
+        Err(_) => Err(Failure::Unwritten),
     }
 }
 

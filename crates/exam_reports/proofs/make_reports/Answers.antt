@@ -34,11 +34,14 @@ within : (e : Else-not-sheet) → Within (sheet_of (text e))
 within e = (sheet_within (text e) (read e)).0
 
 from : (e : Else-n-lt1) → 1 ≤ (sheet_of (e.args.text.now)).n
-from e = omega (arith, e.if-n-lt1.false, (let it : let r = e.read_sheet-sheet.result in SheetSays (e.args.text.now) r.n r.t r.count r.expander r.lines = e.read_sheet-sheet.ensures.says (let it : e.read_sheet-sheet.result.is_sheet ≡ true = not-false _ e.if-not-sheet.false in it) in it).n_read)
+from e =
+    let s = e.read_sheet-sheet.ensures.says (not-false _ e.if-not-sheet.false) in
+    omega (arith, e.if-n-lt1.false, s.n_read)
 
 known : (e : Else-not-is_expander) → is_expander (expander_number (sheet_of (e.args.text.now)).expander) ≡ true
 known e =
-    ap is_expander (sym (let it : let r = e.read_sheet-sheet.result in SheetSays (e.args.text.now) r.n r.t r.count r.expander r.lines = e.read_sheet-sheet.ensures.says (let it : e.read_sheet-sheet.result.is_sheet ≡ true = not-false _ e.if-not-sheet.false in it) in it).expander_read) ∙ sym e.is_expander.ensures ∙ not-false _ e.if-not-is_expander.false-raw
+    let s = e.read_sheet-sheet.ensures.says (not-false _ e.if-not-sheet.false) in
+    ap is_expander (sym s.expander_read) ∙ sym e.is_expander.ensures ∙ not-false _ e.if-not-is_expander.false-raw
 
 -- all fit
 passed : (e : Else-not-fit) → e.fit.result ≡ true

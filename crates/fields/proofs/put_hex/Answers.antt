@@ -29,12 +29,18 @@ turn i =
     rw (← hex_step i.args.bytes.now l.i i.loop-i-test.true) l.invariant.1
 
 -- after its first character
-half : (p : After-put-here) → Grown p.args.out.now p.args.at p.put-here.new.out p.put-here.result (glyph ((get_or p.args.bytes.now p.loop-i.i 0) % 16) ∷ (hexadecimal (drop (p.loop-i.i + 1) p.args.bytes.now))) (hexadecimal p.args.bytes.now)
+half : (p : After-put-here)
+    → let x = get_or p.args.bytes.now p.loop-i.i 0 in
+    Grown p.args.out.now p.args.at p.put-here.new.out p.put-here.result (glyph (x % 16) ∷ hexadecimal (drop (p.loop-i.i + 1) p.args.bytes.now)) (hexadecimal p.args.bytes.now)
 half p =
     let a = p.args in
     let l = p.loop-i in
-    grown_more a.out.now a.at l.out l.here (glyph ((get_or p.args.bytes.now p.loop-i.i 0) / 16) ∷ []) (glyph ((get_or p.args.bytes.now p.loop-i.i 0) % 16) ∷ (hexadecimal (drop (p.loop-i.i + 1) p.args.bytes.now))) (hexadecimal p.args.bytes.now) (let it : Grown p.args.out.now p.args.at p.loop-i.out p.loop-i.here (glyph ((get_or p.args.bytes.now p.loop-i.i 0) / 16) ∷ glyph ((get_or p.args.bytes.now p.loop-i.i 0) % 16) ∷ (hexadecimal (drop (p.loop-i.i + 1) p.args.bytes.now))) (hexadecimal p.args.bytes.now) = let l = p.loop-i in rw (← hex_step p.args.bytes.now l.i p.loop-i-test.true) l.invariant.1 in it) p.requires _ _
-    (p.put-here.ensures.out_after ∙ ap (λ (x : ℕ). put_at l.out l.here (x ∷ [])) (p.hex_digit.ensures ∙ ap (λ (x : ℕ). glyph (x / 16)) p.wide-x.ensures.0)) p.put-here.ensures.value
+    let x = get_or a.bytes.now l.i 0 in
+    let rest = hexadecimal (drop (l.i + 1) a.bytes.now) in
+    let turned : Grown a.out.now a.at l.out l.here (glyph (x / 16) ∷ glyph (x % 16) ∷ rest) (hexadecimal a.bytes.now) =
+    rw (← hex_step a.bytes.now l.i p.loop-i-test.true) l.invariant.1 in
+    grown_more a.out.now a.at l.out l.here (glyph (x / 16) ∷ []) (glyph (x % 16) ∷ rest) (hexadecimal a.bytes.now) turned p.requires _ _
+    (p.put-here.ensures.out_after ∙ ap (λ (y : ℕ). put_at l.out l.here (y ∷ [])) (p.hex_digit.ensures ∙ ap (λ (y : ℕ). glyph (y / 16)) p.wide-x.ensures.0)) p.put-here.ensures.value
 
 -- ---- the needs
 pub loop-i-init : goal.loop-i-init

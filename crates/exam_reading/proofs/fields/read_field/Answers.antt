@@ -26,7 +26,9 @@ within : (c : Else-byte_at-then)
 within c =
     let a = c.args in
     let d = c.digits_end-end in
-    field_within a.text.now a.at a.then d.result d.ensures.0 (let it : is_number (leading (drop c.args.at c.args.text.now)) ≡ true = sym c.is_number.ensures ∙ not-false _ c.if-not-is_number.false-raw in it) (let it : get_or c.args.text.now c.digits_end-end.result 0 ≡ c.args.then = sym c.byte_at.ensures ∙ omega arith in it) (omega arith)
+    let number : is_number (leading (drop a.at a.text.now)) ≡ true = sym c.is_number.ensures ∙ not-false _ c.if-not-is_number.false-raw in
+    let end : get_or a.text.now d.result 0 ≡ a.then = sym c.byte_at.ensures ∙ omega arith in
+    field_within a.text.now a.at a.then d.result d.ensures.0 number end (omega arith)
 
 pub returns-then-not-is_number : goal.returns-then-not-is_number
 returns-then-not-is_number c =

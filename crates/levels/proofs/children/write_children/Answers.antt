@@ -52,22 +52,36 @@ abbrev piece : After-reaches-kept → List ℕ
 piece k = cond k.reaches-kept.result (both_children (unpack k.args.k (take (k.packed_length-w.result) (drop k.loop-left.source k.args.area.now)))) []
 
 turn : (k : After-reaches-kept)
-    → Grown k.args.area.now k.args.at k.loop-left.area k.loop-left.here
-    ((cond k.reaches-kept.result (both_children (unpack k.args.k (take (k.packed_length-w.result) (drop k.loop-left.source k.args.area.now)))) []) ++ (let a = k.args in let l = k.loop-left in packs (children (reaching_at (reaches_by a.rule) a.k a.area.now (l.left - 1) (l.source + (k.packed_length-w.result)) (l.total + 8))))) (let a = k.args in packs (children (reaching_at (reaches_by a.rule) a.k a.area.now a.count a.from a.place)))
+    → let a = k.args in let l = k.loop-left in
+    Grown a.area.now a.at l.area l.here
+    (piece k ++ packs (children (reaching_at (reaches_by a.rule) a.k a.area.now (l.left - 1) (l.source + k.packed_length-w.result) (l.total + 8))))
+    (packs (children (reaching_at (reaches_by a.rule) a.k a.area.now a.count a.from a.place)))
 turn k =
     let a = k.args in
     let l = k.loop-left in
-    let h : l.total + 8 ≤ length a.area.now = omega (arith, l.invariant.1, k.loop-left-test.true, (let it : k.args.at ≤ length k.args.area.now = omega (arith, (let it : k.args.at + length (let a = k.args in packs (children (reaching_at (reaches_by a.rule) a.k a.area.now a.count a.from a.place))) ≤ length k.args.area.now = k.requires.place_in_bounds in it)) in it)) in
-    let f : k.reaches-kept.result ≡ reaches_by a.rule (from_little (window 8 l.total a.area.now)) =
-    k.reaches-kept.ensures ∙ ap (reaches_by a.rule) (k.read_le8.ensures ∙ ap from_little (let it : window 8 k.loop-left.total k.loop-left.area ≡ window 8 k.loop-left.total k.args.area.now = let a = k.args in let l = k.loop-left in let h : l.total + 8 ≤ a.at = omega (arith, l.invariant.1, k.loop-left-test.true) in grown_window a.area.now a.at l.area l.here _ _ l.invariant.2 8 l.total h (omega (arith, (let it : k.args.at ≤ length k.args.area.now = omega (arith, (let it : k.args.at + length (let a = k.args in packs (children (reaching_at (reaches_by a.rule) a.k a.area.now a.count a.from a.place))) ≤ length k.args.area.now = k.requires.place_in_bounds in it)) in it))) in it)) in
-    rw (← children_at (reaches_by a.rule) a.k a.area.now (k.packed_length-w.result) k.packed_length-w.ensures l.left l.source l.total k.loop-left-test.true h
-    k.reaches-kept.result f) l.invariant.2
+    let room : a.at + length (packs (children (reaching_at (reaches_by a.rule) a.k a.area.now a.count a.from a.place))) ≤ length a.area.now = k.requires.place_in_bounds in
+    let inside : a.at ≤ length a.area.now = omega (arith, room) in
+    let before : l.total + 8 ≤ a.at = omega (arith, l.invariant.1, k.loop-left-test.true) in
+    let same : window 8 l.total l.area ≡ window 8 l.total a.area.now = grown_window a.area.now a.at l.area l.here _ _ l.invariant.2 8 l.total before (omega (arith, before, inside)) in
+    let kept : k.reaches-kept.result ≡ reaches_by a.rule (from_little (window 8 l.total a.area.now)) =
+    k.reaches-kept.ensures ∙ ap (reaches_by a.rule) (k.read_le8.ensures ∙ ap from_little same) in
+    rw (← children_at (reaches_by a.rule) a.k a.area.now k.packed_length-w.result k.packed_length-w.ensures l.left l.source l.total k.loop-left-test.true
+    (omega (arith, before, inside)) k.reaches-kept.result kept) l.invariant.2
 
 -- the copy has the prefix's bits
-same_bits : (r : After-read_prefix-prefix) → unpack r.args.k r.read_prefix-prefix.result ≡ unpack r.args.k (take (r.packed_length-w.result) (drop r.loop-left.source r.args.area.now))
+same_bits : (r : After-read_prefix-prefix)
+    → unpack r.args.k r.read_prefix-prefix.result ≡ unpack r.args.k (take r.packed_length-w.result (drop r.loop-left.source r.args.area.now))
 same_bits r =
     let a = r.args in
-    ap (unpack a.k) (r.read_prefix-prefix.ensures ∙ rw (let it : take (r.packed_length-w.result) (drop r.loop-left.source r.loop-left.area) ≡ (take (r.packed_length-w.result) (drop r.loop-left.source r.args.area.now)) = let a = r.args in let l = r.loop-left in grown_part a.area.now a.at l.area l.here _ _ l.invariant.2 (r.packed_length-w.result) l.source (let it : (r.loop-left.source + (r.packed_length-w.result) ≤ r.args.at) × (r.loop-left.source + (r.packed_length-w.result) + (r.loop-left.left - 1) * (r.packed_length-w.result) ≤ r.args.at) = let l = r.loop-left in next_room l.left (r.packed_length-w.result) l.source r.args.at r.loop-left-test.true l.invariant.0 in it).0 (omega (arith, (let it : (r.loop-left.source + (r.packed_length-w.result) ≤ r.args.at) × (r.loop-left.source + (r.packed_length-w.result) + (r.loop-left.left - 1) * (r.packed_length-w.result) ≤ r.args.at) = let l = r.loop-left in next_room l.left (r.packed_length-w.result) l.source r.args.at r.loop-left-test.true l.invariant.0 in it).0, (let it : r.args.at ≤ length r.args.area.now = omega (arith, (let it : r.args.at + length (let a = r.args in packs (children (reaching_at (reaches_by a.rule) a.k a.area.now a.count a.from a.place))) ≤ length r.args.area.now = r.requires.place_in_bounds in it)) in it))) in it)) ∙ unpack_padded a.k 32 (take (r.packed_length-w.result) (drop r.loop-left.source r.args.area.now)) (let it : length (take (r.packed_length-w.result) (drop r.loop-left.source r.args.area.now)) ≡ packed_length r.args.k = let l = r.loop-left in part_length (r.packed_length-w.result) l.source r.args.area.now (omega (arith, (let it : (r.loop-left.source + (r.packed_length-w.result) ≤ r.args.at) × (r.loop-left.source + (r.packed_length-w.result) + (r.loop-left.left - 1) * (r.packed_length-w.result) ≤ r.args.at) = let l = r.loop-left in next_room l.left (r.packed_length-w.result) l.source r.args.at r.loop-left-test.true l.invariant.0 in it).0, (let it : r.args.at ≤ length r.args.area.now = omega (arith, (let it : r.args.at + length (let a = r.args in packs (children (reaching_at (reaches_by a.rule) a.k a.area.now a.count a.from a.place))) ≤ length r.args.area.now = r.requires.place_in_bounds in it)) in it))) ∙ r.packed_length-w.ensures in it) (omega (arith, (let it : length (take (r.packed_length-w.result) (drop r.loop-left.source r.args.area.now)) ≡ packed_length r.args.k = let l = r.loop-left in part_length (r.packed_length-w.result) l.source r.args.area.now (omega (arith, (let it : (r.loop-left.source + (r.packed_length-w.result) ≤ r.args.at) × (r.loop-left.source + (r.packed_length-w.result) + (r.loop-left.left - 1) * (r.packed_length-w.result) ≤ r.args.at) = let l = r.loop-left in next_room l.left (r.packed_length-w.result) l.source r.args.at r.loop-left-test.true l.invariant.0 in it).0, (let it : r.args.at ≤ length r.args.area.now = omega (arith, (let it : r.args.at + length (let a = r.args in packs (children (reaching_at (reaches_by a.rule) a.k a.area.now a.count a.from a.place))) ≤ length r.args.area.now = r.requires.place_in_bounds in it)) in it))) ∙ r.packed_length-w.ensures in it), r.requires.k_bound.0))
+    let l = r.loop-left in
+    let w = r.packed_length-w.result in
+    let own = take w (drop l.source a.area.now) in
+    let placed = next_room l.left w l.source a.at r.loop-left-test.true l.invariant.0 in
+    let room : a.at + length (packs (children (reaching_at (reaches_by a.rule) a.k a.area.now a.count a.from a.place))) ≤ length a.area.now = r.requires.place_in_bounds in
+    let inside : a.at ≤ length a.area.now = omega (arith, room) in
+    let size : length own ≡ packed_length a.k = part_length w l.source a.area.now (omega (arith, placed.0, inside)) ∙ r.packed_length-w.ensures in
+    let same : take w (drop l.source l.area) ≡ own = grown_part a.area.now a.at l.area l.here _ _ l.invariant.2 w l.source placed.0 (omega (arith, placed.0, inside)) in
+    ap (unpack a.k) (r.read_prefix-prefix.ensures ∙ rw same) ∙ unpack_padded a.k 32 own size (omega (arith, size, r.requires.k_bound.0))
 
 -- ---- the needs
 pub loop-left-init : goal.loop-left-init

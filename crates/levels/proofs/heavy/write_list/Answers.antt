@@ -55,14 +55,19 @@ abbrev piece : After-reaches-kept → List ℕ
 piece k = cond k.reaches-kept.result (prefix.part (k.packed_length-w.result) k.loop-left.source k.args.area.now) []
 
 turn : (k : After-reaches-kept)
-    → Grown k.args.list.now 0 k.loop-left.list k.loop-left.here
-    ((cond k.reaches-kept.result (prefix.part (k.packed_length-w.result) k.loop-left.source k.args.area.now) []) ++ (let a = k.args in let l = k.loop-left in packs (reaching_at (reaches_by a.rule) a.k a.area.now (l.left - 1) (l.source + (k.packed_length-w.result)) (l.total + 8)))) (let a = k.args in packs (reaching_at (reaches_by a.rule) a.k a.area.now a.count a.from a.place))
+    → let a = k.args in let l = k.loop-left in
+    Grown a.list.now 0 l.list l.here
+    (piece k ++ packs (reaching_at (reaches_by a.rule) a.k a.area.now (l.left - 1) (l.source + k.packed_length-w.result) (l.total + 8)))
+    (packs (reaching_at (reaches_by a.rule) a.k a.area.now a.count a.from a.place))
 turn k =
     let a = k.args in
     let l = k.loop-left in
-    let h : l.total + 8 ≤ length a.area.now = omega (arith, l.invariant.1, k.loop-left-test.true) in
-    rw (← list_at (reaches_by a.rule) a.k a.area.now (k.packed_length-w.result) k.packed_length-w.ensures l.left l.source l.total k.loop-left-test.true h
-    k.reaches-kept.result (k.reaches-kept.ensures ∙ ap (reaches_by a.rule) k.read_le8.ensures) (let it : (k.loop-left.source + (k.packed_length-w.result) ≤ length k.args.area.now) × (k.loop-left.source + (k.packed_length-w.result) + (k.loop-left.left - 1) * (k.packed_length-w.result) ≤ length k.args.area.now) = let l = k.loop-left in next_room l.left (k.packed_length-w.result) l.source (length k.args.area.now) k.loop-left-test.true l.invariant.0 in it).0 (let it : (pack (unpack k.args.k (take (k.packed_length-w.result) (drop k.loop-left.source k.args.area.now))) ≡ (take (k.packed_length-w.result) (drop k.loop-left.source k.args.area.now))) × Packed k.args.k (parts (packed_length k.args.k) (k.loop-left.left - 1) (drop (k.loop-left.source + (k.packed_length-w.result)) k.args.area.now)) = let l = k.loop-left in packed_step k.args.k (k.packed_length-w.result) k.packed_length-w.ensures k.args.area.now l.left l.source k.loop-left-test.true l.invariant.2 in it).0) l.invariant.3
+    let w = k.packed_length-w.result in
+    let inside : l.total + 8 ≤ length a.area.now = omega (arith, l.invariant.1, k.loop-left-test.true) in
+    let placed = next_room l.left w l.source (length a.area.now) k.loop-left-test.true l.invariant.0 in
+    let whole_part = packed_step a.k w k.packed_length-w.ensures a.area.now l.left l.source k.loop-left-test.true l.invariant.2 in
+    rw (← list_at (reaches_by a.rule) a.k a.area.now w k.packed_length-w.ensures l.left l.source l.total k.loop-left-test.true inside
+    k.reaches-kept.result (k.reaches-kept.ensures ∙ ap (reaches_by a.rule) k.read_le8.ensures) placed.0 whole_part.0) l.invariant.3
 
 -- ---- the needs
 pub loop-left-init : goal.loop-left-init
