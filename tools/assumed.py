@@ -4,7 +4,7 @@ library says of the system.
 
 - Of a crate that an earlier run proved, `rt ci` says only that it is kept; it refuses C functions of the repository's own in every run, and antt every axiom.
 - Of a program and of the library for C that this run proved, it names the C functions whose contracts the proof reached: the library for C reaches none.
-- Of a library it names none; so its sources, outside tests, may name nothing of the system, but the trait of a reader that a caller lends."""
+- Of a library it names none; so its sources, outside tests, may name nothing of the system, but the traits of a reader and a writer that a caller lends."""
 import glob
 import re
 import sys
@@ -14,7 +14,7 @@ PROGRAMS = {"exam", "exam_sheets", "key", "vectors"}
 SYSTEM = {"libc", "os", "std"}
 # Words of the verdict that no crate has: its own C functions, contracts that may say nothing, a way out of a contract, faults of the prover.
 NEVER = re.compile(r" (foreign|hides|may-abort|may-wait|may-serve|partial|bugs|main|pinned|cache)=")
-LENT = "use std::io::Read;"
+LENT = "use std::io::{Read, Write};"
 REACHES = re.compile(r"\bHostRuntime\b|\bGlobal\b|\bstd::(?:\{[^;]*\b)?(?:alloc|env|fs|io|net|os|process|rt|sync|thread|time)\b|\bextern\b|\b(?:io|libc|os)::")
 
 
