@@ -5,12 +5,13 @@ ghost use Rattle.std.specs.Prelude.{◌≡◌, ◌&&◌, ◌≤◌, length};
 ghost use Rattle.numbers.specs.Numbers.{from_little};
 ghost use Rattle.places.specs.Places.{window, overlay};
 ghost use Rattle.calls.specs.Causes.{number_due};
-ghost use Rattle.calls.specs.Outcome.{left};
+ghost use Rattle.calls.specs.Refusals.{number_in};
+ghost use Rattle.calls.specs.Outcome.{answered};
 ghost use Rattle.group.specs.Modular.{field};
 ghost use Rattle.shares.specs.ShareNumbers.{numbers, unmatched, all_below};
 ghost use Rattle.shares.specs.Add.{add_causes, add_bytes, add_exit};
 
-use calls::Reply;
+use calls::Refusal;
 use numbers::{read_le8, write_le8};
 
 // Whether the lengths of two shares differ or are no multiple of 8.
@@ -56,20 +57,20 @@ pub fn sum_at(share0: &[u8], share1: &[u8], at: usize) -> u64
     group::add(read_le8(share0, at), read_le8(share1, at))
 }
 
-// The number of the first cause that applies, or 0.
-fn add_cause(share0: &[u8], share1: &[u8], room: usize) -> u64
-    ensures { result ≡ number_due (add_causes share0.now share1.now room) }
+// The first cause that applies.
+fn check(share0: &[u8], share1: &[u8], room: usize) -> Result<(), Refusal>
+    ensures { number_in result ≡ number_due (add_causes share0.now share1.now room) }
 {
     if unmatched(share0, share1) {
-        return 4;
+        return Err(Refusal::Lengths);
     }
     if !both_below(share0, share1) {
-        return 6;
+        return Err(Refusal::PayloadTooLarge);
     }
     if room < share0.len() {
-        return 11;
+        return Err(Refusal::NoSpace);
     }
-    0
+    Ok(())
 }
 
 // The sums at all places, in order, in the place of the beginning of `out`.
@@ -87,16 +88,10 @@ fn write_sums(share0: &[u8], share1: &[u8], out: &mut [u8])
 }
 
 // Writes for each place the sum of the two shares' numbers; refuses with 4, 6 or 11.
-pub fn add_shares(share0: &[u8], share1: &[u8], out: &mut [u8]) -> Reply
-    ensures { left result out.new ≡ add_exit share0.now share1.now out.old }
+pub fn add_shares(share0: &[u8], share1: &[u8], out: &mut [u8]) -> Result<u64, Refusal>
+    ensures { answered result out.new ≡ add_exit share0.now share1.now out.old }
 {
-    let number = add_cause(share0, share1, out.len());
-    if number != 0 {
-        return Reply { number, length: 0 };
-    }
+    check(share0, share1, out.len())?;
     write_sums(share0, share1, out);
-    Reply {
-        number: 0,
-        length: share0.len() as u64,
-    }
+    Ok(share0.len() as u64)
 }

@@ -1,11 +1,11 @@
--- `shares::add_cause` meets its contract. At each return the tests that led there say which cause is the first.
+-- `shares::check` meets its contract. At each return the tests that led there say which cause is the first.
 use mathlib.Core.Path.{◌≡◌, sym, ◌∙◌}
 use mathlib.Core.Bool.{true, false, ◌&&◌}
 use borrow.Author.Tests.{not-true, not-false}
 use Rattle.shares.specs.ShareNumbers.{numbers, unmatched, all_below}
 use Rattle.shares.proofs.AddOutcome.{cause_4, cause_6, cause_11, no_cause}
-use Rattle.shares.proofs.add_cause.Goals as goal
-use Rattle.shares.proofs.add_cause.Goals.{Else-not-both_below, Else-unmatched}
+use Rattle.shares.proofs.check.Goals as goal
+use Rattle.shares.proofs.check.Goals.{Else-not-both_below, Else-unmatched}
 
 matches : (c : Else-unmatched) → unmatched c.args.share0.now c.args.share1.now ≡ false
 matches c = sym c.unmatched.ensures ∙ c.if-unmatched.false
