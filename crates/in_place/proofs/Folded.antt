@@ -1,4 +1,6 @@
 -- All turns of a call's task leave what the call is to leave.
+use Rattle.expander.specs.declared.Expander.{Expander}
+use Rattle.std.specs.Prelude.{Option}
 use Prim.Native.Nat.{ℕ, ◌+◌, ◌*◌, ◌<◌}
 use native.Mathlib.Omega.{arith}
 use native.Mathlib.Decide.{ℕ_discrete}
@@ -13,7 +15,6 @@ use Rattle.calls.specs.Causes.{number_due}
 use Rattle.calls.specs.Outcome.{Outcome}
 use Rattle.calls.specs.declared.Reply.{Reply}
 use Rattle.calls.proofs.Judged.{number_clear}
-use Rattle.expander.specs.declared.Choice.{Choice}
 use Rattle.query.specs.Query.{prefix_count, prefixes_of}
 use Rattle.point.specs.Node as point
 use Rattle.nodes.specs.declared.Node.{Node}
@@ -95,7 +96,7 @@ module _ (n e : ℕ) (b : Bool) (shares last query : List ℕ) (l : List Node) (
     accepted_task : task_of n e b shares last query (length l) (length area) ≡ task n e b shares last query l area call_ready
     unfolding task_of
     accepted_task =
-        rw (eq-eqb number 0 h) (ap (λ (c : Choice). task_under c n b shares last query) call_ready.chosen)
+        rw (eq-eqb number 0 h) (ap (λ (c : (Option Expander)). task_under c n b shares last query) call_ready.chosen)
 
     share_size : length (kept_share n shares last (map node_of l) call_ready.expander b query) ≡ 8 * prefix_count query
     unfolding kept_share
