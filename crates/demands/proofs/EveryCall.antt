@@ -73,7 +73,7 @@ untouched out h = (h, ap (λ (bytes : List ℕ). overlay bytes out) h ∙ overla
 at_most : (e : ℕ) (seed : List ℕ) (j : ℕ) → length (under (choice_of e) (λ x. block_of x seed j)) ≤ 16
 at_most e seed j = go (choice_of e)
   where
-    go : (c : (Option Expander)) → length (under c (λ x. block_of x seed j)) ≤ 16
+    go : (c : Option Expander) → length (under c (λ x. block_of x seed j)) ≤ 16
     go (Some x) = omega (arith, block_length x seed j)
     go None = omega arith
 

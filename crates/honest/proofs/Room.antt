@@ -46,7 +46,7 @@ share_room n e b seeds shares query room h = (go (choice_of e) refl, (outcome.re
     clear : (judged (outcome.causes n e seeds shares query room) []).number ≡ 0
     clear = outcome.outcome_number n e b seeds shares query room refl ∙ h
 
-    go : (c : (Option Expander)) → choice_of e ≡ c → length (share_outcome n e b seeds shares query room).written ≡ 8 * prefix_count query
+    go : (c : Option Expander) → choice_of e ≡ c → length (share_outcome n e b seeds shares query room).written ≡ 8 * prefix_count query
     go (Some x) q =
         ap (λ (o : Outcome). length o.written) (outcome.outcome_accepted n e b seeds shares query room x q clear)
         ∙ outcome.bytes_length n b seeds shares query x

@@ -58,7 +58,7 @@ module _ (s : Lent) (sound : Sound s) where
   -- both sums added are the total
   sums_total : (λ (q : Bits). field.add (sum false q) (sum true q)) ≡ total s
   unfolding total_under
-  sums_total = ap (λ (c : (Option Expander)). total_under c s) (sym sound.named)
+  sums_total = ap (λ (c : Option Expander). total_under c s) (sym sound.named)
 
   -- Where the bytes pass as a query, both servers succeed and write their sums.
   share_succeeds : (b : Bool) (q : List ℕ) → is_query s.n q ≡ true → share_of s b q ≡ accepted (in_bytes (map (sum b) (prefixes_of q)))

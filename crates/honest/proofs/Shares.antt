@@ -98,7 +98,7 @@ module _ (e : Expander) (number : ℕ) (named : choice_of number ≡ Some e) (n 
       judged_accepted (share_causes n number (lent_seeds b rs) (lent_shares e n rs) query room) _
       (in_bounds 256 n from to & ap not (known number e named) & lent_lengths b & le-ltb most_reports _ reports
       & lent_payloads b & lent_spares b & ap not asks & le-ltb room (8 * prefix_count query) fits & tt)
-      ∙ ap (λ (c : (Option Expander)). accepted (under c (share_bytes n b (lent_seeds b rs) (lent_shares e n rs) query))) named
+      ∙ ap (λ (c : Option Expander). accepted (under c (share_bytes n b (lent_seeds b rs) (lent_shares e n rs) query))) named
 
   -- So it does where it is lent what is equal.
   pub share_lent : (b : Bool) (seeds shares : List ℕ) → seeds ≡ lent_seeds b rs → shares ≡ lent_shares e n rs

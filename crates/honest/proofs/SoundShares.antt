@@ -48,7 +48,7 @@ pub total_below : (s : Lent) (q : Bits) → total s q < p
 unfolding total_under
 total_below s q = go (choice_of s.expander)
   where
-    go : (c : (Option Expander)) → total_under c s q < p
+    go : (c : Option Expander) → total_under c s q < p
     go (Some e) = mod-lt _ (omega arith)
     go None = omega arith
 
@@ -83,4 +83,4 @@ module _ (n number : ℕ) (e : Expander) (named : choice_of number ≡ Some e) (
       judged_accepted (share_causes n number seeds shares query room) _
       (in_bounds 256 n from to & ap not (known number e named) & right_lengths & le-ltb most_reports _ most
       & payloads_small & spares_zero_lem & ap not asks & le-ltb room (8 * prefix_count query) fits & tt)
-      ∙ ap (λ (c : (Option Expander)). accepted (under c (share_bytes n b seeds shares query))) named
+      ∙ ap (λ (c : Option Expander). accepted (under c (share_bytes n b seeds shares query))) named

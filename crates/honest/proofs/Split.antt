@@ -153,7 +153,7 @@ module _ (n e : ℕ) (b : Bool) (query seeds_a shares_a seeds_b shares_b : List 
       → ((together room).number ≡ 0) × (together room ≡ add_outcome answer_a.written answer_b.written space)
   share_split a c few room space fits fits' = go (choice_of e) refl
     where
-      go : (x : (Option Expander)) → choice_of e ≡ x → ((together room).number ≡ 0) × (together room ≡ add_outcome answer_a.written answer_b.written space)
+      go : (x : Option Expander) → choice_of e ≡ x → ((together room).number ≡ 0) × (together room ≡ add_outcome answer_a.written answer_b.written space)
       go (Some x) named =
           let w_a = lent_whole n e b seeds_a shares_a query room_a a in
           let w_b = lent_whole n e b seeds_b shares_b query room_b c in

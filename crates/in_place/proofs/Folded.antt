@@ -96,7 +96,7 @@ module _ (n e : ℕ) (b : Bool) (shares last query : List ℕ) (l : List Node) (
     accepted_task : task_of n e b shares last query (length l) (length area) ≡ task n e b shares last query l area call_ready
     unfolding task_of
     accepted_task =
-        rw (eq-eqb number 0 h) (ap (λ (c : (Option Expander)). task_under c n b shares last query) call_ready.chosen)
+        rw (eq-eqb number 0 h) (ap (λ (c : Option Expander). task_under c n b shares last query) call_ready.chosen)
 
     share_size : length (kept_share n shares last (map node_of l) call_ready.expander b query) ≡ 8 * prefix_count query
     unfolding kept_share
