@@ -91,7 +91,7 @@ from_big_cut (suc n) x =
 pub from_big_big : (n x : ℕ) → x < 256 ^ n → from_big (big n x) ≡ x
 from_big_big n x h = from_big_cut n x ∙ mod-eq_of_lt h
 
-big_cut : (n k x : ℕ) → big n (k * 256 ^ n + x) ≡ big n x
+pub big_cut : (n k x : ℕ) → big n (k * 256 ^ n + x) ≡ big n x
 unfolding big
 big_cut zero k x = refl
 big_cut (suc n) k x =
