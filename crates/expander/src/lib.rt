@@ -98,9 +98,7 @@ pub fn two_blocks(e: Expander, seed: [u8; 16], i: u64, j: u64) -> Blocks
 {
     match e {
         Expander::Aes => {
-            let pair = aes::encrypt_two(seed, counter(i), counter(j));
-            let first = pair.first;
-            let second = pair.second;
+            let (first, second) = aes::encrypt_two(seed, counter(i), counter(j));
             Blocks { first, second }
         }
         Expander::Classroom => {
