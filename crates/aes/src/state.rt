@@ -1,8 +1,9 @@
 // The state of the cipher and its round steps.
 ghost use Rattle.std.specs.Prelude.{◌≡◌, ◌+◌, ◌<◌};
-ghost use Rattle.aes.specs.Fips197.{s_box_table, sub_bytes, shift_rows, mix_columns, add_round_key, rcon, next_round_key, round, last_round};
+ghost use Rattle.aes.specs.Fips197.{sub_bytes, shift_rows, mix_columns, add_round_key, rcon, next_round_key, round, last_round};
 ghost use Rattle.aes.specs.StateLayout.{bytes_of};
 
+use crate::sbox::SBox;
 use crate::word::Word;
 
 // A state as its four columns, or a round key as its four words.
@@ -42,14 +43,13 @@ impl State {
     }
 
     // SubBytes: the S-box at each byte.
-    fn sub_bytes(mut self, table: &[u8; 256]) -> State
-        requires { table.now ≡ s_box_table }
+    fn sub_bytes(mut self, s_box: &SBox) -> State
         ensures { bytes_of result ≡ sub_bytes (bytes_of self) }
     {
-        self.w0 = self.w0.sub_word(table);
-        self.w1 = self.w1.sub_word(table);
-        self.w2 = self.w2.sub_word(table);
-        self.w3 = self.w3.sub_word(table);
+        self.w0 = self.w0.sub_word(s_box);
+        self.w1 = self.w1.sub_word(s_box);
+        self.w2 = self.w2.sub_word(s_box);
+        self.w3 = self.w3.sub_word(s_box);
         self
     }
 
@@ -95,35 +95,33 @@ impl State {
     }
 
     // A round before the last. ShiftRows goes before SubBytes, with which it commutes.
-    pub(crate) fn round(mut self, table: &[u8; 256], key: State) -> State
-        requires { table.now ≡ s_box_table }
+    pub(crate) fn round(mut self, s_box: &SBox, key: State) -> State
         ensures { bytes_of result ≡ round (bytes_of self) (bytes_of key) }
     {
         self = self.shift_rows();
-        self = self.sub_bytes(table);
+        self = self.sub_bytes(s_box);
         self = self.mix_columns();
         self.add_round_key(key)
     }
 
     // The last round, which has no MixColumns; its first two steps are exchanged likewise.
-    pub(crate) fn last_round(mut self, table: &[u8; 256], key: State) -> State
-        requires { table.now ≡ s_box_table }
+    pub(crate) fn last_round(mut self, s_box: &SBox, key: State) -> State
         ensures { bytes_of result ≡ last_round (bytes_of self) (bytes_of key) }
     {
         self = self.shift_rows();
-        self = self.sub_bytes(table);
+        self = self.sub_bytes(s_box);
         self.add_round_key(key)
     }
 
     // From the round key of round i to that of round i + 1.
-    pub(crate) fn next_round_key(mut self, table: &[u8; 256], i: usize) -> State
-        requires { (table.now ≡ s_box_table) × (i < 10) }
+    pub(crate) fn next_round_key(mut self, s_box: &SBox, i: usize) -> State
+        requires { i < 10 }
         ensures { bytes_of result ≡ next_round_key (rcon (i + 1)) (bytes_of self) }
     {
         let temp = self
             .w3
             .rot_word()
-            .sub_word(table)
+            .sub_word(s_box)
             .plus(Word::round_constant(i));
         self.w0 = self.w0.plus(temp);
         self.w1 = self.w1.plus(self.w0);
