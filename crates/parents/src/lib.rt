@@ -35,7 +35,7 @@ pub fn is_last(n: u64, last: &[u8]) -> bool
     last.is_empty() || query::is_query(n, last)
 }
 
-// Whether the first w bytes agree.
+// Whether the first w bytes agree. No `==` of slices: a byte past the end counts as 0, and neighbours in a query differ in their last bytes.
 fn same_bytes(a: &[u8], b: &[u8], w: usize) -> bool
     ensures { result ≡ every w (λ i. eqb (get_or a.now i 0) (get_or b.now i 0)) }
 {
@@ -89,7 +89,7 @@ fn find_parent(
     down_from(last, child, k, below).or_else(|| down_from(last, child, k, m))
 }
 
-// The same place; m where there is none.
+// The same place; m where there is none, as a number: what turns promises of its parents counts with it.
 pub fn parent_place(last: &[u8], m: usize, child: &[u8], k: usize, up: bool, hint: usize) -> usize
     ensures { result ≡ looked_up up (is_parent last.now child.now k) m hint }
 {
