@@ -1,4 +1,4 @@
--- `combine::checks::first_cause` meets its contract. At each return the tests that led there say which cause is the first.
+-- `combine::checks::check` meets its contract. At each return the tests that led there say which cause is the first.
 use mathlib.Core.Path.{◌≡◌, sym, ◌∙◌}
 use mathlib.Core.Bool.{true, false, ◌&&◌}
 use borrow.Author.Tests.{not-true, not-false}
@@ -7,8 +7,8 @@ use Rattle.calls.specs.Bounds.{most_bits, threshold_most, outside}
 use Rattle.shares.specs.ShareNumbers.{numbers, all_below}
 use Rattle.combine.specs.Combine.{wrong_shares}
 use Rattle.combine.proofs.Outcome.{cause_1, cause_2, cause_4, cause_6, cause_9, no_cause}
-use Rattle.combine.proofs.checks.first_cause.Goals as goal
-use Rattle.combine.proofs.checks.first_cause.Goals.{Else-length_outside, Else-not-below, Else-threshold_outside, Else-wrong_shares}
+use Rattle.combine.proofs.checks.check.Goals as goal
+use Rattle.combine.proofs.checks.check.Goals.{Else-length_outside, Else-not-below, Else-threshold_outside, Else-wrong_shares}
 
 bounds : (c : Else-length_outside) → outside most_bits c.args.n ≡ false
 bounds c = sym c.length_outside.ensures ∙ c.if-length_outside.false
@@ -31,7 +31,7 @@ returns-then-length_outside c =
 pub returns-then-threshold_outside : goal.returns-then-threshold_outside
 returns-then-threshold_outside c =
     let a = c.args in
-    c.threshold_number.ensures
+    c.threshold_refusal.ensures
     ∙ cause_2 a.n a.weighted a.t a.query.now a.share0.now a.share1.now (bounds (goal.at.returns-then-threshold_outside c).Else-length_outside) (sym c.threshold_outside.ensures ∙ c.if-threshold_outside.true)
 
 pub returns-then-wrong_shares : goal.returns-then-wrong_shares
