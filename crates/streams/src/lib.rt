@@ -1,8 +1,8 @@
 // What a reader gives, read into a lent space, and what is written to a writer.
 #![tactic(auto)]
 
-ghost use Rattle.std.specs.Prelude.{IfErr, IfOk, IfSome, OnOk, length, take, ◌≡◌};
-ghost use Rattle.std.specs.Io.KnownBytes.{Appends, Consumes};
+ghost use Rattle.std.specs.Prelude.{ℕ, List, IfErr, IfOk, IfSome, IsErrOf, OnOk, length, take, ◌≡◌, ◌<◌};
+ghost use Rattle.std.specs.Io.KnownBytes.{Appends, Consumes, Keeps};
 ghost use Rattle.streams.specs.Prefix.{IsPrefixLen, read_in};
 ghost use Rattle.streams.specs.declared.Failure.TheVariants.{Unread};
 
@@ -67,6 +67,31 @@ pub fn read_text<R: Read>(reader: &mut R, text: &mut [u8]) -> Result<usize, Cut>
         }
     }
     Ok(done)
+}
+
+// A program: what it writes for a text.
+pub trait Program {
+    // The whole output, which hangs on no more than the first 4,096 bytes.
+    ghost output: { List ℕ → List ℕ };
+
+    // Writes the whole output for a text at the beginning of `out`, and says how many bytes it has.
+    fn respond(text: &[u8], out: &mut [u8; 65536]) -> usize
+        ensures { IsPrefixLen result out.new × (take result out.new ≡ output text.now) };
+
+    ghost cut: { (m : ℕ) → 4096 < m → (bytes : List ℕ) → output (take m bytes) ≡ output bytes };
+}
+
+// Answers what a reader gives, on a writer. Where it is known which bytes the reader has left, the output is that for all of them, although
+// no more than 4,097 are read.
+pub fn serve<P: Program, R: Read, W: Write>(reader: &mut R, writer: &mut W) -> Result<(), Failure>
+    ensures ok { OnOk result (IfSome (R.remaining reader.old) (λ bytes. Appends (W.contents writer.old) (W.contents writer.new) (P.output bytes))) }
+    ensures unread { IsErrOf result Failure.Unread → Keeps (W.contents writer.old) (W.contents writer.new) }
+{
+    let mut text = [0u8; 4097];
+    let mut out = [0u8; 65536];
+    let length = read_text(reader, &mut text)?;
+    let end = P::respond(&text[..length], &mut out);
+    put(writer, &out[..end])
 }
 
 // Writes bytes, or says that this failed.
