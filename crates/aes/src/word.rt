@@ -1,6 +1,6 @@
 // A word of FIPS 197: a column of the state, or a word of the key schedule.
 ghost use Rattle.std.specs.Prelude.{◌≡◌, [], ◌∷◌, map, ◌+◌, ◌<◌};
-ghost use Rattle.gf256.specs.Field.{tabulate, ◌·◌};
+ghost use Rattle.gf256.specs.Field.{◌·◌};
 ghost use Rattle.aes.specs.Fips197.{◌‼◌, sum_word, mix_column, rot_word, sub_word, rcon};
 ghost use Rattle.aes.specs.StateLayout.{word_of};
 
