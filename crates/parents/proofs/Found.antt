@@ -3,8 +3,9 @@ use Prim.Native.Nat.{ℕ, zero, suc, ◌+◌, ◌-◌, ◌≤◌, ◌<◌, min}
 use native.Mathlib.Omega.{arith}
 use native.Mathlib.Numerals.{add-one}
 use mathlib.Core.Path.{◌≡◌, refl, sym, ◌∙◌}
-use mathlib.Core.Bool.{Bool, true, false, cond, ◌&&◌}
+use mathlib.Core.Bool.{Bool, true, false, cond}
 use mathlib.Core.List.{List, [], ◌∷◌}
+use Rattle.std.proofs.Math.Bool.{and_comm}
 use Rattle.std.specs.Prelude.{Option, None, Some, MatchOption}
 use Rattle.std.specs.Option.{option_map}
 use Rattle.std.specs.Iterator.{AlwaysYields}
@@ -40,13 +41,7 @@ down_yields {s} n e f = record { runs = range_down n s e f }
 pub all_down : (f : ℕ → Bool) (n : ℕ) → list_all f (downwards n) ≡ every n f
 unfolding every
 all_down f zero = refl
-all_down f (suc n) = rw (all_down f n) (swap (f n) (every n f))
-  where
-    swap : (a b : Bool) → (a && b) ≡ (b && a)
-    swap true true = refl
-    swap true false = refl
-    swap false true = refl
-    swap false false = refl
+all_down f (suc n) = rw (all_down f n) (and_comm (f n) (every n f))
 
 module _ (f : ℕ → Bool) where
   first_up : (n a : ℕ) → MatchOption (find f (range_with_len a n)) (a + n ≤ up_from f a n) (λ i. (i < a + n) × (up_from f a n ≡ i))

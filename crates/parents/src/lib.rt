@@ -48,10 +48,7 @@ fn same_bits(a: &[u8], b: &[u8], k: usize) -> bool
 {
     let whole = k / 8;
     let past = 8 - k % 8;
-    if wide(byte_at(a, whole)) >> past != wide(byte_at(b, whole)) >> past {
-        return false;
-    }
-    same_bytes(a, b, whole)
+    wide(byte_at(a, whole)) >> past == wide(byte_at(b, whole)) >> past && same_bytes(a, b, whole)
 }
 
 // The first place from `from` on, below m, at which the first k bits of `child` stand in the last query.

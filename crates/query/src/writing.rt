@@ -1,5 +1,5 @@
 // Queries as they are written: the two fields, kept prefixes, and their children. What does not fit is not written at all.
-ghost use Rattle.std.specs.Prelude.{◌≡◌, cond, [], ◌++◌, ◌+◌, ◌<◌, length, take};
+ghost use Rattle.std.specs.Prelude.{◌≡◌, cond, [], ◌++◌, ◌+◌, length, take};
 ghost use Rattle.numbers.specs.Numbers.{big};
 ghost use Rattle.bits.specs.Packing.{packed_length, pack, unpack};
 ghost use Rattle.places.specs.Places.{put_at};
@@ -79,6 +79,7 @@ pub fn write_both_children(
     if !within(out.len(), at, size) {
         return at;
     }
+    // No slice holds the children before they are written, so they do not go through `write_fitting`.
     let second = at + size;
     if !within(out.len(), second, size) {
         return at;
