@@ -12,7 +12,7 @@ pub fn payloads_below(n: u16, share: &[u8]) -> bool
     let mut reader = ShareReader::at_level(share, n, 0);
     let mut below = true;
     for _ in 0..n {
-        below = below && reader.correction().payload < group::P;
+        below &= reader.correction().payload < group::P;
         reader = reader.advanced();
     }
     below

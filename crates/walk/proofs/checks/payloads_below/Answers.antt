@@ -1,10 +1,9 @@
 -- `walk::checks::payloads_below` meets its contract.
-use Rattle.std.proofs.Common.{◌≡◌, ℕ, ◌∙◌, ap, refl, arith}
+use Rattle.std.proofs.Common.{Bool, ◌&&◌, ltb, ◌≡◌, ℕ, ◌∙◌, ap, arith}
+use Rattle.group.specs.Modular.{p}
 use Rattle.nodes.specs.NodeLayout.{correction_of}
-use Rattle.point.specs.PublicShare.{read_correction}
 use Rattle.walk.proofs.PublicTests.{below, below_none_lem, below_more, below_all_lem}
 use Rattle.walk.proofs.checks.payloads_below.Goals as goal
-use Rattle.walk.proofs.checks.payloads_below.Goals.{then-below, else-below}
 
 pub loop-init : goal.loop-init
 loop-init c =
@@ -22,15 +21,9 @@ loop-preserved c =
       levels = cc;
       next = omega (arith, moved.2);
       tested =
-          elim c.if-below.branch [
-            | then-below w ↦
-                below_more n l.counter share (correction_of w.correction.result) _
-                (rw (l.invariant.levels, l.invariant.share, l.invariant.next) at w.correction.ensures)
-                (rw (← l.invariant.tested, w.if-below.true) w.below-is)
-            | else-below w ↦
-                below_more n l.counter share (read_correction n share l.counter) _ refl
-                (w.below-is ∙ rw (← l.invariant.tested, w.if-below.false))
-          ];
+          below_more n l.counter share (correction_of c.correction.result) _
+          (rw (l.invariant.levels, l.invariant.share, l.invariant.next) at c.correction.ensures)
+          (ap (λ (b : Bool). b && ltb c.correction.result.payload p) l.invariant.tested);
     }
 
 pub returns : goal.returns
