@@ -8,7 +8,7 @@ returns-clause-first_value c =
     let s = a.self in
     rw (← c.n-n.ensures)
     (total_sums s.expander c.n-n.result s.seeds0.now s.shares0.now s.seeds1.now s.shares1.now a.k a.first.now c.requires.0
-    c.server_sums-zero.ensures.first_value c.server_sums-one.ensures.first_value c.add.ensures.0)
+    c.sums-first0.ensures.first_value c.sums-first1.ensures.first_value c.add.ensures.0)
 
 pub returns-clause-second_value : goal.returns-clause-second_value
 returns-clause-second_value c =
@@ -16,4 +16,4 @@ returns-clause-second_value c =
     let s = a.self in
     rw (← c.n-n.ensures)
     (total_sums s.expander c.n-n.result s.seeds0.now s.shares0.now s.seeds1.now s.shares1.now a.k a.second.now c.requires.1
-    c.server_sums-zero.ensures.second_value c.server_sums-one.ensures.second_value c.add-2.ensures.0)
+    c.sums-first0.ensures.second_value c.sums-first1.ensures.second_value c.add-2.ensures.0)
