@@ -11,7 +11,7 @@ ghost use Rattle.report_sums.specs.Reports.{all_count, server_sum};
 ghost use Rattle.idpf.specs.Share.{share_causes, share_bytes, share_exit};
 
 use calls::Reply;
-use expander::{Choice, Expander};
+use expander::Expander;
 use report_sums::{
     all_payloads_below, all_spare_bits_zero, server_sum, server_sums, wrong_lengths,
 };
@@ -148,8 +148,8 @@ pub fn share(
     if number != 0 {
         return Reply { number, length: 0 };
     }
-    match expander::choose(expander) {
-        Choice::Known(e) => {
+    match Expander::try_from(expander) {
+        Ok(e) => {
             write_sums(e, n as u16, server, seeds, public_shares, query, out);
             let count = query::prefix_count(query);
             Reply {
@@ -157,7 +157,7 @@ pub fn share(
                 length: 8 * (count as u64),
             }
         }
-        Choice::Unknown => Reply {
+        Err(_) => Reply {
             number: 3,
             length: 0,
         },

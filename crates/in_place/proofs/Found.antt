@@ -1,5 +1,4 @@
 -- A task that no cause refuses: what its turns make is what the list of nodes one level down is made of.
-use Rattle.std.specs.Prelude.{Some}
 use Prim.Native.Nat.{ℕ, ◌+◌, ◌-◌, ◌*◌, ◌/◌, ◌%◌, ◌≤◌, ◌<◌}
 use native.Mathlib.Omega.{arith}
 use native.Mathlib.Nat.{mod-lt, div-add-mod'}
@@ -44,7 +43,7 @@ use Rattle.in_place.proofs.Level.{new_count, word_of, bit_at, made, place_is, no
 module _ (n e : ℕ) (b : Bool) (shares last query : List ℕ) (l : List Node) (area : List ℕ) (r : Ready n e shares last query (length l) (length area)) where
   -- the task
   abbrev pub task : Task
-  task = task_under (Some r.expander) n b shares last query
+  task = task_under r.expander n b shares last query
 
   -- the new prefix j, and the place of its parent
   abbrev pub prefix_at : ℕ → Bits

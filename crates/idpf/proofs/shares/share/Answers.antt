@@ -43,19 +43,19 @@ write_sums-requires c = let r = all_well (goal.at.write_sums-requires c).Else-nu
 pub overflow_mul-result : goal.overflow_mul-result
 overflow_mul-result c = omega (arith, c.prefix_count-count.ensures.1)
 
-pub returns-in-Known : goal.returns-in-Known
-returns-in-Known c =
+pub returns-in-Ok : goal.returns-in-Ok
+returns-in-Ok c =
     let a = c.args in
-    let x = c.in-Known.e in
+    let x = c.in-Ok.e in
     rw (outcome_accepted a.n a.expander a.server a.seeds.now a.public_shares.now a.query.now (length a.out.now) x
-    (sym c.in-Known.ensures) (clear (goal.at.returns-in-Known c).Else-number-ne0))
+    c.in-Ok.ensures (clear (goal.at.returns-in-Ok c).Else-number-ne0))
     (exit_equal
     refl
     (ap (λ (m : ℕ). 8 * m) c.prefix_count-count.ensures.0 ∙ sym (bytes_length a.n a.server a.seeds.now a.public_shares.now a.query.now x))
     c.write_sums.ensures)
 
-pub returns-in-Unknown : goal.returns-in-Unknown
-returns-in-Unknown c =
+pub returns-in-Err : goal.returns-in-Err
+returns-in-Err c =
     let a = c.args in
     absurd (never_unknown a.n a.expander a.seeds.now a.public_shares.now a.query.now (length a.out.now)
-    (sym c.in-Unknown.ensures) (clear (goal.at.returns-in-Unknown c).Else-number-ne0))
+    c.in-Err.ensures (clear (goal.at.returns-in-Err c).Else-number-ne0))
