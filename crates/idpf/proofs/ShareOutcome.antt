@@ -17,7 +17,7 @@ use Rattle.calls.proofs.Decisions.{neither, bounds}
 use Rattle.calls.proofs.Judged.{Clear, judged_number, judged_refused, judged_accepted, judged_clear}
 use Rattle.expander.specs.Expander.{is_expander, choice_of}
 use Rattle.expander.specs.declared.Expander.{Expander}
-use Rattle.expander.specs.declared.Choice.TheVariants.{Known, Unknown}
+use Rattle.std.specs.Prelude.{Some, None}
 use Rattle.expander.proofs.Chosen.{unknown}
 use Rattle.group.specs.Modular.{p}
 use Rattle.point.specs.Evaluation.{bit_of}
@@ -129,14 +129,14 @@ module _ (n e : ℕ) (b : Bool) (seeds shares query : List ℕ) (room : ℕ) whe
   outcome_refused h z = judged_refused (causes n e seeds shares query room) _ (λ y. z (h ∙ judged_number (causes n e seeds shares query room) [] _ ∙ y))
 
   -- success
-  pub outcome_accepted : (x : Expander) → choice_of e ≡ Known x → (judged (causes n e seeds shares query room) []).number ≡ 0
+  pub outcome_accepted : (x : Expander) → choice_of e ≡ Some x → (judged (causes n e seeds shares query room) []).number ≡ 0
       → share_outcome n e b seeds shares query room ≡ accepted (share_bytes n b seeds shares query x)
   unfolding share_outcome
   outcome_accepted x c h =
       judged_accepted (causes n e seeds shares query room) _ (clear n e seeds shares query room h) ∙ rw c
 
 -- an expander that is none is refused
-pub never_unknown : (n e : ℕ) (seeds shares query : List ℕ) (room : ℕ) → choice_of e ≡ Unknown → (judged (causes n e seeds shares query room) []).number ≡ 0 → ⊥
+pub never_unknown : (n e : ℕ) (seeds shares query : List ℕ) (room : ℕ) → choice_of e ≡ None → (judged (causes n e seeds shares query room) []).number ≡ 0 → ⊥
 never_unknown n e seeds shares query room c h =
     let k : is_expander e ≡ true = (ready n e seeds shares query room h).known in
     let u : is_expander e ≡ false = unknown e c in
