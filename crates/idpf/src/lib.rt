@@ -1,6 +1,2 @@
-// The servers' side of the incremental distributed point function: a server's share for a query.
+// stub
 #![tactic(auto)]
-
-mod shares;
-
-pub use shares::share;
