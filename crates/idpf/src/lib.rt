@@ -1,2 +1,6 @@
-// stub
+// The servers' side of the incremental distributed point function: a server's share for a query.
 #![tactic(auto)]
+
+mod shares;
+
+pub use shares::share;
