@@ -1,9 +1,8 @@
 -- `search::search` meets its contract: a cause of what is lent refuses it; where none applies the levels decide.
 use Prim.Native.Nat.{◌-◌}
 use native.Mathlib.Omega.{arith}
-use mathlib.Core.Path.{◌≡◌, sym}
-use Rattle.calls.specs.Causes.{number_due}
-use Rattle.search.specs.Search.{Lent, lent, lent_causes}
+use mathlib.Core.Path.{sym}
+use Rattle.search.specs.Search.{Lent, lent}
 use Rattle.search.proofs.Closing.{refused, within_bounds, settled}
 use Rattle.search.proofs.search.Goals as goal
 use Rattle.search.proofs.search.Goals.{After-check, In_ok-e}
