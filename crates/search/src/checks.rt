@@ -5,7 +5,7 @@ ghost use Rattle.calls.specs.Refusals.{number_in};
 ghost use Rattle.expander.specs.Expander.{choice_of};
 ghost use Rattle.report_sums.specs.Reports.{report_count};
 ghost use Rattle.report_sums.specs.Checks.{wrong_lengths, payload_too_large, spare_bits_set};
-ghost use Rattle.search.specs.Search.{lent, same_bytes, settings_causes, amount_causes, public_share_causes, lent_causes};
+ghost use Rattle.search.specs.Search.{lent, settings_causes, amount_causes, public_share_causes, lent_causes};
 
 use calls::Refusal;
 use expander::Expander;
@@ -18,13 +18,6 @@ struct Reports<'a> {
     shares0: &'a [u8],
     seeds1: &'a [u8],
     shares1: &'a [u8],
-}
-
-// Whether two slices hold the same bytes.
-fn same_bytes(a: &[u8], b: &[u8]) -> bool
-    ensures { result ≡ same_bytes a.now b.now }
-{
-    a == b
 }
 
 impl Reports<'_> {
@@ -76,7 +69,7 @@ impl Reports<'_> {
     {
         let large = self.payload_too_large();
         let spare = self.spare_bits_set();
-        let same = same_bytes(self.shares0, self.shares1);
+        let same = self.shares0 == self.shares1;
         if large {
             return Err(Refusal::PayloadTooLarge);
         }
