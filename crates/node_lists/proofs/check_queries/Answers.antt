@@ -1,4 +1,4 @@
--- `node_lists::query_cause` meets its contract.
+-- `node_lists::check_queries` meets its contract.
 use borrow.Author.Rules.{rules}
 use mathlib.Core.Path.{◌≡◌, sym, ap, ◌∙◌}
 use mathlib.Core.Bool.{true, false}
@@ -9,8 +9,8 @@ use Rattle.query.specs.Query.{is_query, prefix_count}
 use Rattle.parents.specs.Parents.{is_last, parent_missing}
 use Rattle.parents.proofs.Parented.{missing_exact}
 use Rattle.node_lists.specs.ShareKept.{too_few_nodes}
-use Rattle.node_lists.proofs.query_cause.Goals as goal
-use Rattle.node_lists.proofs.query_cause.Goals.{After-prefix_count, Else-not-is_last, Else-not-is_query}
+use Rattle.node_lists.proofs.check_queries.Goals as goal
+use Rattle.node_lists.proofs.check_queries.Goals.{After-prefix_count, Else-not-is_last, Else-not-is_query}
 
 -- ---- the tests that were passed
 last_query_lem : (c : Else-not-is_last) → is_last c.args.n c.args.last.now ≡ true
