@@ -13,13 +13,6 @@ pub(crate) struct ShareReader<'a> {
     pub(crate) next: u16,
 }
 
-// A level that was read: its correction word, and the level after it.
-#[derive(Clone, Copy)]
-pub(crate) struct LevelRead {
-    pub(crate) word: Correction,
-    pub(crate) after: u16,
-}
-
 // The correction word of level k, of n, in a public share.
 pub fn read_correction(bytes: &[u8], n: u16, k: u16) -> Correction
     ensures { correction_of result ≡ read_correction n bytes.now k }
@@ -69,15 +62,10 @@ impl<'a> ShareReader<'a> {
 }
 
 // The correction word of level k, of n, and the level after it, by a reader made at level k.
-pub(crate) fn read_level(bytes: &[u8], n: u16, k: u16) -> LevelRead
+pub(crate) fn read_level(bytes: &[u8], n: u16, k: u16) -> (Correction, u16)
     requires { k < 65535 }
-    ensures { (correction_of result.word ≡ read_correction n bytes.now k) × (result.after ≡ k + 1) }
+    ensures { (correction_of result.0 ≡ read_correction n bytes.now k) × (result.1 ≡ k + 1) }
 {
     let reader = ShareReader::at_level(bytes, n, k);
-    let word = reader.correction();
-    let on = reader.advanced();
-    LevelRead {
-        word,
-        after: on.next,
-    }
+    (reader.correction(), reader.advanced().next)
 }
