@@ -18,24 +18,17 @@ use numbers::{read_le8, write_le8};
 pub fn unmatched(share0: &[u8], share1: &[u8]) -> bool
     ensures { result ≡ unmatched share0.now share1.now }
 {
-    if share0.len() != share1.len() {
-        return true;
-    }
-    share0.len() % 8 != 0
+    share0.len() != share1.len() || share0.len() % 8 != 0
 }
 
 // Whether every number of a share is below p.
 fn all_below(share: &[u8]) -> bool
     ensures { result ≡ all_below (numbers share.now) }
 {
-    let mut left = share.len() / 8;
-    let mut place = 0;
-    while 0 < left {
-        if group::P <= read_le8(share, place) {
+    for i in 0..share.len() / 8 {
+        if group::P <= read_le8(share, 8 * i) {
             return false;
         }
-        place += 8;
-        left -= 1;
     }
     true
 }
@@ -44,10 +37,7 @@ fn all_below(share: &[u8]) -> bool
 pub fn both_below(share0: &[u8], share1: &[u8]) -> bool
     ensures { result ≡ (all_below (numbers share0.now) && all_below (numbers share1.now)) }
 {
-    if !all_below(share0) {
-        return false;
-    }
-    all_below(share1)
+    all_below(share0) && all_below(share1)
 }
 
 // The sum in the group of the numbers of two shares at place `at`.
@@ -78,12 +68,8 @@ fn write_sums(share0: &[u8], share1: &[u8], out: &mut [u8])
     requires { (length share0.now ≡ length share1.now) × (length share0.now ≤ length out.old) }
     ensures { out.new ≡ overlay (add_bytes share0.now share1.now) out.old }
 {
-    let mut left = share0.len() / 8;
-    let mut place = 0;
-    while 0 < left {
-        write_le8(out, place, sum_at(share0, share1, place));
-        place += 8;
-        left -= 1;
+    for i in 0..share0.len() / 8 {
+        write_le8(out, 8 * i, sum_at(share0, share1, 8 * i));
     }
 }
 
