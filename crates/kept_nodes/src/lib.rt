@@ -68,7 +68,8 @@ pub fn write_roots(server: bool, seeds: &[u8], nodes: &mut [Node]) -> Result<(),
     ensures { (number_in result ≡ roots_number seeds.now (length nodes.old))
         × (map node_of nodes.new ≡ roots_after server seeds.now (map node_of nodes.old)) }
 {
-    for i in 0..node_lists::count_roots(seeds, nodes.len())? {
+    let count = node_lists::count_roots(seeds, nodes.len())?;
+    for i in 0..count {
         nodes[i] = node_lists::root(server, seeds, i);
     }
     Ok(())

@@ -46,7 +46,7 @@ impl From<Cut> for Failure {
     ghost from_gives = { λ _ failure. failure ≡ Unread };
 
     fn from(_: Cut) -> Failure {
-        Failure::Unread
+        Self::Unread
     }
 }
 
