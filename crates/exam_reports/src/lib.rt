@@ -51,15 +51,6 @@ pub fn make_reports(text: &[u8], seeds0: &mut [u8], seeds1: &mut [u8], shares: &
     ) {
         return false;
     }
-    write_reports(
-        text,
-        sheet.lines,
-        sheet.n,
-        sheet.expander,
-        sheet.count,
-        seeds0,
-        seeds1,
-        shares,
-    );
+    write_reports(text, sheet, seeds0, seeds1, shares);
     true
 }
