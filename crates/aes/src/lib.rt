@@ -27,7 +27,7 @@ pub fn encrypt(key: [u8; 16], block: [u8; 16]) -> [u8; 16]
 }
 
 // Two blocks encrypted under one key, each round key being computed once.
-// A walk of its own: with the round keys kept in an array a block took 1.2 times as long, and a whole search missed its bar of 0.6.
+// A walk of its own: with the round keys kept in an array blocks took 1.16 times as long, and a whole search has room for 1.07 (0.56 of a bar of 0.6).
 pub fn encrypt_two(key: [u8; 16], first: [u8; 16], second: [u8; 16]) -> ([u8; 16], [u8; 16])
     ensures { (result.0 ≡ cipher key first) × (result.1 ≡ cipher key second) }
 {
