@@ -42,47 +42,43 @@ impl State {
     }
 
     // SubBytes: the S-box at each byte.
-    fn sub_bytes(self, s_box: &SBox) -> State
+    fn sub_bytes(mut self, s_box: &SBox) -> State
         ensures { bytes_of result ≡ sub_bytes (bytes_of self) }
     {
-        State {
-            columns: self.columns.map(|w| w.sub_word(s_box)),
-        }
+        self.columns = self.columns.map(|w| w.sub_word(s_box));
+        self
     }
 
     // ShiftRows: row r goes to the left by r columns.
-    fn shift_rows(self) -> State
+    fn shift_rows(mut self) -> State
         ensures { bytes_of result ≡ shift_rows (bytes_of self) }
     {
         let [a, b, c, d] = self.columns;
-        State {
-            columns: [
-                Word::diagonal(a, b, c, d),
-                Word::diagonal(b, c, d, a),
-                Word::diagonal(c, d, a, b),
-                Word::diagonal(d, a, b, c),
-            ],
-        }
+        self.columns = [
+            Word::diagonal(a, b, c, d),
+            Word::diagonal(b, c, d, a),
+            Word::diagonal(c, d, a, b),
+            Word::diagonal(d, a, b, c),
+        ];
+        self
     }
 
     // MixColumns: each column times the fixed matrix.
-    fn mix_columns(self) -> State
+    fn mix_columns(mut self) -> State
         ensures { bytes_of result ≡ mix_columns (bytes_of self) }
     {
-        State {
-            columns: self.columns.map(|w| w.mix_column()),
-        }
+        self.columns = self.columns.map(|w| w.mix_column());
+        self
     }
 
     // AddRoundKey: the sum with a round key.
-    fn add_round_key(self, key: State) -> State
+    fn add_round_key(mut self, key: State) -> State
         ensures { bytes_of result ≡ add_round_key (bytes_of self) (bytes_of key) }
     {
         let [a, b, c, d] = self.columns;
         let [p, q, r, s] = key.columns;
-        State {
-            columns: [a.plus(p), b.plus(q), c.plus(r), d.plus(s)],
-        }
+        self.columns = [a.plus(p), b.plus(q), c.plus(r), d.plus(s)];
+        self
     }
 
     // The state before the first round: a block with the first round key added.
@@ -122,8 +118,7 @@ impl State {
         let b = b.plus(a);
         let c = c.plus(b);
         let d = d.plus(c);
-        State {
-            columns: [a, b, c, d],
-        }
+        self.columns = [a, b, c, d];
+        self
     }
 }
