@@ -39,7 +39,7 @@ pub fn answer(text: &[u8], out: &mut [u8]) -> Reply
     if !known {
         return refusal(3);
     }
-    solve(text, sheet.n, sheet.t, sheet.expander, sheet.count, out)
+    solve(text, sheet, out)
 }
 
 // Writes the whole output for an exam text: the answer, or the line of the refusal; refuses with 11 where it does not fit.
