@@ -12,7 +12,8 @@ pub fn payloads_below(n: u16, share: &[u8]) -> bool
     let mut reader = ShareReader::at_level(share, n, 0);
     let mut below = true;
     for _ in 0..n {
-        below &= reader.correction().payload < group::P;
+        let word = reader.correction();
+        below &= word.payload < group::P;
         reader = reader.advanced();
     }
     below

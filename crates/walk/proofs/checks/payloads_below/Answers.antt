@@ -21,9 +21,9 @@ loop-preserved c =
       levels = cc;
       next = omega (arith, moved.2);
       tested =
-          below_more n l.counter share (correction_of c.correction.result) _
-          (rw (l.invariant.levels, l.invariant.share, l.invariant.next) at c.correction.ensures)
-          (ap (λ (b : Bool). b && ltb c.correction.result.payload p) l.invariant.tested);
+          below_more n l.counter share (correction_of c.correction-word.result) _
+          (rw (l.invariant.levels, l.invariant.share, l.invariant.next) at c.correction-word.ensures)
+          (ap (λ (b : Bool). b && ltb c.correction-word.result.payload p) l.invariant.tested);
     }
 
 pub returns : goal.returns
