@@ -4,7 +4,7 @@ use Rattle.std.specs.Prelude.{Option, Some, None}
 use Prim.Native.Nat.{ℕ, suc, ◌+◌, ◌*◌, ◌≤◌, ◌<◌}
 use native.Mathlib.Omega.{arith}
 use mathlib.Core.Path.{◌≡◌, refl, sym, ap, ◌∙◌, subst}
-use mathlib.Core.Bool.{Bool, true, false, cond}
+use mathlib.Core.Bool.{Bool, true, false, true≢false, cond}
 use mathlib.Core.List.{List, [], ◌∷◌}
 use mathlib.Core.Logic.{◌≢◌}
 use mathlib.Core.Option.{none, some}
@@ -19,6 +19,7 @@ use Rattle.calls.specs.Outcome.{Outcome, judged}
 use Rattle.calls.proofs.Decisions.{neither}
 use Rattle.calls.proofs.Judged.{Clear, judged_due, judged_accepted, judged_clear, threshold_numbered, ◌&◌}
 use Rattle.expander.specs.Expander.{choice_of}
+use Rattle.expander.proofs.Chosen.{unknown}
 use Rattle.point.specs.PublicShare.{public_share_length}
 use Rattle.query.specs.Query.{OfLength, prefix_length, prefix_count}
 use Rattle.query.proofs.Children.{children_longer}
@@ -50,7 +51,7 @@ share_room n e b seeds shares query room h = (go (choice_of e) refl, (outcome.re
     go (Some x) q =
         ap (λ (o : Outcome). length o.written) (outcome.outcome_accepted n e b seeds shares query room x q clear)
         ∙ outcome.bytes_length n b seeds shares query x
-    go None q = absurd (outcome.never_unknown n e seeds shares query room q clear)
+    go None q = absurd (true≢false (sym (outcome.ready n e seeds shares query room clear).known ∙ unknown e q))
 
 -- the strings of an answer for prefixes of k bits: one bit longer in a next query, n bits in a list
 abbrev Sized : ℕ → ℕ → Answer → Type 0

@@ -5,7 +5,7 @@ use native.Mathlib.Nat.{add-zero, add-suc, mul-add, mul-div_right, min-eq_left}
 use native.Mathlib.Decide.{dec_lt}
 use native.Mathlib.Omega.{arith}
 use mathlib.Core.Path.{◌≡◌, refl, sym, ap, ap₂, ◌∙◌}
-use mathlib.Core.Bool.{Bool, true, false, cond, not}
+use mathlib.Core.Bool.{Bool, true, false, true≢false, cond, not}
 use mathlib.Core.List.{List, ◌++◌, map}
 use borrow.Author.Tests.{le-ltb, eq-eqb}
 use lib.ListN.{length, length-append}
@@ -17,6 +17,7 @@ use Rattle.calls.specs.Outcome.{Outcome, accepted}
 use Rattle.calls.proofs.Decisions.{neither_test}
 use Rattle.calls.proofs.Judged.{judged_accepted, ◌&◌}
 use Rattle.expander.specs.Expander.{choice_of}
+use Rattle.expander.proofs.Chosen.{unknown}
 use Rattle.expander.specs.declared.Expander.{Expander}
 use Rattle.group.specs.Modular.{p, field}
 use Rattle.group.proofs.Modular.{field_laws}
@@ -173,4 +174,4 @@ module _ (n e : ℕ) (b : Bool) (query seeds_a shares_a seeds_b shares_b : List 
                 ∙ sums_added (sum_at x n b seeds_a shares_a) (sum_at x n b seeds_b shares_b) (sum_small x n b seeds_a shares_a) (sum_small x n b seeds_b shares_b) qs space
                 (rw (outcome.prefixes_length query) fits')),
           )
-      go None named = absurd (outcome.never_unknown n e seeds_a shares_a query room_a named (outcome.outcome_number n e b seeds_a shares_a query room_a refl ∙ a))
+      go None named = absurd (true≢false (sym (outcome.ready n e seeds_a shares_a query room_a (outcome.outcome_number n e b seeds_a shares_a query room_a refl ∙ a)).known ∙ unknown e named))
