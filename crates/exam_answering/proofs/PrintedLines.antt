@@ -1,12 +1,14 @@
 -- The lines of a record and of a list, one after the other: how a loop over them goes on.
-use Prim.Native.Nat.{ℕ, zero, suc, ◌+◌, ◌-◌, ◌*◌, ◌≤◌, ◌<◌}
+use Prim.Native.Nat.{ℕ, zero, suc, ◌+◌, ◌-◌, ◌*◌, ◌/◌, ◌%◌, ◌≤◌, ◌<◌}
+use native.Mathlib.Nat.{suc-mul}
 use native.Mathlib.Omega.{arith}
 use mathlib.Core.Path.{◌≡◌, refl}
 use mathlib.Core.List.{List, [], ◌++◌}
 use mathlib.Core.Logic.{inl, inr}
 use borrow.Author.Tests.{eq-eqb, ne_eqb}
-use lib.ListN.{length, take, drop, length-drop}
-use lib.Seq.{take_all, drop-drop}
+use lib.ListN.{length, take, drop, length-append, length-drop}
+use lib.Seq.{take_all, take_at, drop_at, drop-drop}
+use Rattle.std.proofs.lemmas.Nat.{div-add-mod', div-mul-add}
 use Rattle.numbers.specs.Numbers.{from_little}
 use Rattle.bits.specs.Packing.{packed_length, unpack}
 use Rattle.query.specs.Query.{prefix_length, prefix_count}
@@ -37,13 +39,17 @@ unfolding list_lines
 list_none n zero bytes h = refl
 list_none n (suc m) bytes h = absurd (omega arith)
 
-pub list_step : (n w m from : ℕ) (bytes : List ℕ) → w ≡ packed_length n → 0 < m
-    → list_lines n m (drop from bytes) ≡ heavy_line (unpack n (take w (drop from bytes))) ++ list_lines n (m - 1) (drop (from + w) bytes)
+-- one string more
+next_count : (w m : ℕ) → 0 < w → (w + m) / w ≡ suc (m / w)
+next_count w m p =
+    let e : w + m ≡ suc (m / w) * w + m % w = omega (arith, div-add-mod' m w, suc-mul (m / w) w) in
+    rw e (div-mul-add (suc (m / w)) w (m % w) (omega arith))
+
+pub list_next : (n : ℕ) (x rest : List ℕ) → 0 < packed_length n → length x ≡ packed_length n
+    → list_lines n (length (x ++ rest) / packed_length n) (x ++ rest) ≡ heavy_line (unpack n x) ++ list_lines n (length rest / packed_length n) rest
 unfolding list_lines
-list_step n w zero from bytes e h = absurd (omega arith)
-list_step n w (suc m) from bytes e h =
-    let f : suc m - 1 ≡ m = omega arith in
-    rw (e, f, drop-drop (packed_length n) from bytes)
+list_next n x rest p e =
+    rw (length-append x rest, e, next_count (packed_length n) (length rest) p, take_at x rest (packed_length n) e, drop_at x rest (packed_length n) e)
 
 -- ---- the rounds of a record
 
@@ -74,21 +80,21 @@ pub rest_of : (from : ℕ) (bytes : List ℕ) → take (length bytes - from) (dr
 rest_of from bytes = take_all (length bytes - from) (drop from bytes) (omega (arith, length-drop from bytes))
 
 -- a record that is not at its end has a round, and the others after it
-some : (from : ℕ) (bytes : List ℕ) → from < length bytes → length (drop from bytes) ≡ 0 → ⊥
-some from bytes inside e = omega (arith, length-drop from bytes)
+some : (bytes : List ℕ) → 0 < length bytes → length bytes ≡ 0 → ⊥
+some bytes inside e = omega arith
 
-pub record_step : (m from size : ℕ) (bytes : List ℕ) → size ≡ round_length (drop from bytes) → 0 < m → from < length bytes
-    → rounds_lines m (drop from bytes) ≡ round_lines (drop from bytes) ++ rounds_lines (m - 1) (drop (from + size) bytes)
+pub record_step : (m size : ℕ) (bytes : List ℕ) → size ≡ round_length bytes → 0 < m → 0 < length bytes
+    → rounds_lines m bytes ≡ round_lines bytes ++ rounds_lines (m - 1) (drop size bytes)
 unfolding rounds_lines
-record_step zero from size bytes e h inside = absurd (omega arith)
-record_step (suc m) from size bytes e h inside =
+record_step zero size bytes e h inside = absurd (omega arith)
+record_step (suc m) size bytes e h inside =
     let f : suc m - 1 ≡ m = omega arith in
-    rw (e, ne_eqb (length (drop from bytes)) 0 (some from bytes inside), f, drop-drop (round_length (drop from bytes)) from bytes)
+    rw (e, ne_eqb (length bytes) 0 (some bytes inside), f)
 
-pub rounds_step : (m from size : ℕ) (bytes : List ℕ) → size ≡ round_length (drop from bytes) → 0 < m → from < length bytes → Rounds round_length m (drop from bytes)
-    → (round_length (drop from bytes) ≤ length (drop from bytes)) × Rounds round_length (m - 1) (drop (from + size) bytes)
-rounds_step zero from size bytes e h inside r = absurd (omega arith)
-rounds_step (suc m) from size bytes e h inside (inl z) = absurd (some from bytes inside z)
-rounds_step (suc m) from size bytes e h inside (inr r) =
+pub rounds_step : (m size : ℕ) (bytes : List ℕ) → size ≡ round_length bytes → 0 < m → 0 < length bytes → Rounds round_length m bytes
+    → (round_length bytes ≤ length bytes) × Rounds round_length (m - 1) (drop size bytes)
+rounds_step zero size bytes e h inside r = absurd (omega arith)
+rounds_step (suc m) size bytes e h inside (inl z) = absurd (some bytes inside z)
+rounds_step (suc m) size bytes e h inside (inr r) =
     let f : suc m - 1 ≡ m = omega arith in
-    (r.1, rw (e, f, ← drop-drop (round_length (drop from bytes)) from bytes) r.2)
+    (r.1, rw (e, f) r.2)

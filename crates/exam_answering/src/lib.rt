@@ -24,17 +24,12 @@ fn refusal(number: u64) -> Reply
 pub fn answer(text: &[u8], out: &mut [u8]) -> Reply
     ensures { left result out.new ≡ exam_exit text.now out.old }
 {
-    let sheet = read_sheet(text);
-    let n = sheet.n;
-    let t = sheet.t;
-    let expander = sheet.expander;
-    let is_sheet = sheet.is_sheet;
-    let no_bits = n < 1;
-    let outside = calls::threshold_outside(false, t);
-    let known = expander::is_expander(expander);
-    if !is_sheet {
+    let Some(sheet) = read_sheet(text) else {
         return refusal(10);
-    }
+    };
+    let no_bits = sheet.n < 1;
+    let outside = calls::threshold_outside(false, sheet.t);
+    let known = expander::is_expander(sheet.expander);
     if no_bits {
         return refusal(1);
     }
@@ -44,7 +39,7 @@ pub fn answer(text: &[u8], out: &mut [u8]) -> Reply
     if !known {
         return refusal(3);
     }
-    solve(text, n, t, expander, sheet.count, out)
+    solve(text, sheet, out)
 }
 
 // Writes the whole output for an exam text: the answer, or the line of the refusal; refuses with 11 where it does not fit.

@@ -5,7 +5,7 @@ ghost use Rattle.bits.specs.Packing.{packed_length, unpack};
 ghost use Rattle.places.specs.Places.{put_at, overlay};
 ghost use Rattle.query.specs.Query.{prefix_length, prefix_count};
 ghost use Rattle.tree.specs.SearchRule.{heading_length};
-ghost use Rattle.exam_lines.specs.Lines.{prefix_line, heavy_line};
+ghost use Rattle.exam_lines.specs.Lines.{prefix_line};
 ghost use Rattle.exam_text.proofs.Records.{Rounds};
 ghost use Rattle.exam_answering.specs.Printing.{entry_lines, query_length, round_length, rounds_lines, list_lines, printed};
 
@@ -53,15 +53,9 @@ fn write_entries(
     ensures out_after { out.new ≡ put_at out.old at (entry_lines k count (drop 6 round.now) (drop totals round.now)) }
 {
     let w = packed_length(k);
-    let mut left = count;
-    let mut from = 6;
-    let mut place = totals;
     let mut here = at;
-    while 0 < left {
-        here = write_entry(round, k, w, from, place, out, here);
-        from += w;
-        place += 8;
-        left -= 1;
+    for i in 0..count {
+        here = write_entry(round, k, w, 6 + i * w, totals + i * 8, out, here);
     }
     here
 }
@@ -106,29 +100,16 @@ fn write_rounds(n: usize, rounds: &[u8], out: &mut [u8], at: usize) -> usize
     ensures value { result ≡ at + length (rounds_lines n rounds.now) }
     ensures out_after { out.new ≡ put_at out.old at (rounds_lines n rounds.now) }
 {
-    let mut left = n;
-    let mut from = 0;
+    let mut rest = rounds;
     let mut here = at;
-    while 0 < left {
-        if rounds.len() <= from {
+    for _ in 0..n {
+        if rest.is_empty() {
             return here;
         }
-        here = write_round(&rounds[from..], out, here);
-        from += round_length(&rounds[from..]);
-        left -= 1;
+        here = write_round(rest, out, here);
+        rest = &rest[round_length(rest)..];
     }
     here
-}
-
-// Writes the line of the heavy string of n bits in w bytes from place `from` of a list on.
-fn write_heavy(list: &[u8], n: usize, w: usize, from: usize, out: &mut [u8], at: usize) -> usize
-    requires { (w ≡ packed_length n) × (from + w ≤ length list.now) × (at + length (heavy_line (unpack n (take w (drop from list.now)))) ≤ length
-        out.old) }
-    ensures value { result ≡ at + length (heavy_line (unpack n (take w (drop from list.now)))) }
-    ensures out_after { out.new ≡ put_at out.old at (heavy_line (unpack n (take w (drop from list.now)))) }
-{
-    let end = from + w;
-    write_heavy_line(&list[from..end], n, out, at)
 }
 
 // Writes the lines of a list of heavy strings of n bits.
@@ -137,14 +118,9 @@ fn write_list(n: usize, list: &[u8], out: &mut [u8], at: usize) -> usize
     ensures value { result ≡ at + length (list_lines n (length list.now / packed_length n) list.now) }
     ensures out_after { out.new ≡ put_at out.old at (list_lines n (length list.now / packed_length n) list.now) }
 {
-    let w = packed_length(n);
-    let mut left = list.len() / w;
-    let mut from = 0;
     let mut here = at;
-    while 0 < left {
-        here = write_heavy(list, n, w, from, out, here);
-        from += w;
-        left -= 1;
+    for string in list.chunks_exact(packed_length(n)) {
+        here = write_heavy_line(string, n, out, here);
     }
     here
 }

@@ -17,14 +17,13 @@ ghost use Rattle.exam_answering.specs.SheetSearch.{searched_text, search_text};
 use crate::printing::print;
 use calls::Reply;
 use exam_lines::write_text;
+use exam_reading::SheetHead;
 use exam_reports::make_reports;
 use nodes::public_share_length;
 
 // Prints the queries and totals of the record, and the list, of a search that is accepted; both servers are lent the same public shares.
 fn search_printed(
-    n: u16,
-    t: u64,
-    expander: u64,
+    sheet: SheetHead,
     seeds0: &[u8],
     seeds1: &[u8],
     shares: &[u8],
@@ -32,18 +31,19 @@ fn search_printed(
     list: &mut [u8],
     out: &mut [u8],
 ) -> usize
-    requires le_n { (1 ≤ n) × (n ≤ 32) × Accepted (lent n false t expander seeds0.now shares.now seeds1.now shares.now area.old list.old) }
-    requires rounds { Rounds round_length n (drop heading_length (record_read (lent n false t expander seeds0.now shares.now seeds1.now shares.now area.old
+    requires le_n { (1 ≤ sheet.n) × (sheet.n ≤ 32) × Accepted (lent sheet.n false sheet.t sheet.expander seeds0.now shares.now seeds1.now shares.now area.old list.old) }
+    requires rounds { Rounds round_length sheet.n (drop heading_length (record_read (lent sheet.n false sheet.t sheet.expander seeds0.now shares.now seeds1.now shares.now area.old
         list.old))) }
-    requires list_in_bounds { length (printed n (record_read (lent n false t expander seeds0.now shares.now seeds1.now shares.now area.old list.old))
-        (list_read (lent n false t expander seeds0.now shares.now seeds1.now shares.now area.old list.old))) ≤ length out.old }
-    ensures value { result ≡ length (printed n (record_read (lent n false t expander seeds0.now shares.now seeds1.now
-        shares.now area.old list.old)) (list_read (lent n false t expander seeds0.now shares.now
+    requires list_in_bounds { length (printed sheet.n (record_read (lent sheet.n false sheet.t sheet.expander seeds0.now shares.now seeds1.now shares.now area.old list.old))
+        (list_read (lent sheet.n false sheet.t sheet.expander seeds0.now shares.now seeds1.now shares.now area.old list.old))) ≤ length out.old }
+    ensures value { result ≡ length (printed sheet.n (record_read (lent sheet.n false sheet.t sheet.expander seeds0.now shares.now seeds1.now
+        shares.now area.old list.old)) (list_read (lent sheet.n false sheet.t sheet.expander seeds0.now shares.now
         seeds1.now shares.now area.old list.old))) }
-    ensures out_after { out.new ≡ overlay (printed n (record_read (lent n false t expander seeds0.now shares.now seeds1.now
-        shares.now area.old list.old)) (list_read (lent n false t expander seeds0.now shares.now
+    ensures out_after { out.new ≡ overlay (printed sheet.n (record_read (lent sheet.n false sheet.t sheet.expander seeds0.now shares.now seeds1.now
+        shares.now area.old list.old)) (list_read (lent sheet.n false sheet.t sheet.expander seeds0.now shares.now
         seeds1.now shares.now area.old list.old))) out.old }
 {
+    let SheetHead { n, t, expander, .. } = sheet;
     let found = search::search(
         n as u64, false, t, expander, seeds0, shares, seeds1, shares, area, list,
     );
@@ -52,14 +52,10 @@ fn search_printed(
     print(n, &area[..record_end], &list[..list_end], out)
 }
 
-// Makes the reports of the sheet of a text, whose first line says n, t, the expander and the count of lines, searches them, and prints what is found from
-// the beginning of `out` on. It is lent the space for 32 reports, for a record and for a list.
+// Makes the reports of the sheet of a text, searches them, and prints what is found from the beginning of `out` on. It is lent the space for 32 reports, for a record and for a list.
 fn print_answer(
     text: &[u8],
-    n: u16,
-    t: u64,
-    expander: u64,
-    count: u16,
+    sheet: SheetHead,
     seeds0: &mut [u8],
     seeds1: &mut [u8],
     shares: &mut [u8],
@@ -67,9 +63,10 @@ fn print_answer(
     list: &mut [u8],
     out: &mut [u8],
 ) -> usize
-    requires text_value { (is_sheet text.now ≡ true) × (1 ≤ n) × (n ≤ 32) × (1 ≤ t) × (t ≤ 65535) × (is_expander expander ≡ true) × (count ≤ 32) }
-    requires n_value { (n ≡ (sheet_of text.now).n) × (t ≡ (sheet_of text.now).t) × (expander ≡ expander_number (sheet_of text.now).expander) ×
-        (count ≡ length (sheet_of text.now).lines) }
+    requires text_value { (is_sheet text.now ≡ true) × (1 ≤ sheet.n) × (sheet.n ≤ 32) × (1 ≤ sheet.t) × (sheet.t ≤ 65535) ×
+        (is_expander sheet.expander ≡ true) × (sheet.count ≤ 32) }
+    requires n_value { (sheet.n ≡ (sheet_of text.now).n) × (sheet.t ≡ (sheet_of text.now).t) ×
+        (sheet.expander ≡ expander_number (sheet_of text.now).expander) × (sheet.count ≡ length (sheet_of text.now).lines) }
     requires seeds0_len { (length seeds0.old ≡ 512) × (length seeds1.old ≡ 512) × (length shares.old ≡ 24832) × (length area.old ≡ 19382) ×
         (length list.old ≡ 128) × (length out.old ≡ 43232) }
     ensures seeds0_after { (seeds0.new ≡ overlay (seeds0_of (sheet_of text.now)) seeds0.old)
@@ -79,12 +76,10 @@ fn print_answer(
     ensures out_after { out.new ≡ overlay (searched_text (sheet_of text.now) area.old list.old) out.old }
 {
     make_reports(text, seeds0, seeds1, shares);
-    let seeds_end = 16 * (count as usize);
-    let shares_end = public_share_length(n) * (count as usize);
+    let seeds_end = 16 * (sheet.count as usize);
+    let shares_end = public_share_length(sheet.n) * (sheet.count as usize);
     search_printed(
-        n,
-        t,
-        expander,
+        sheet,
         &seeds0[..seeds_end],
         &seeds1[..seeds_end],
         &shares[..shares_end],
@@ -95,10 +90,11 @@ fn print_answer(
 }
 
 // Answers a sheet to which no cause before 11 applies, in space of its own: what is written is printed of the search of the sheet's own reports.
-pub(crate) fn solve(text: &[u8], n: u16, t: u64, expander: u64, count: u16, out: &mut [u8]) -> Reply
-    requires text_value { (is_sheet text.now ≡ true) × (1 ≤ n) × (n ≤ 32) × (1 ≤ t) × (t ≤ 65535) × (is_expander expander ≡ true) × (count ≤ 32) }
-    requires n_value { (n ≡ (sheet_of text.now).n) × (t ≡ (sheet_of text.now).t) × (expander ≡ expander_number (sheet_of text.now).expander) ×
-        (count ≡ length (sheet_of text.now).lines) }
+pub(crate) fn solve(text: &[u8], sheet: SheetHead, out: &mut [u8]) -> Reply
+    requires text_value { (is_sheet text.now ≡ true) × (1 ≤ sheet.n) × (sheet.n ≤ 32) × (1 ≤ sheet.t) × (sheet.t ≤ 65535) ×
+        (is_expander sheet.expander ≡ true) × (sheet.count ≤ 32) }
+    requires n_value { (sheet.n ≡ (sheet_of text.now).n) × (sheet.t ≡ (sheet_of text.now).t) ×
+        (sheet.expander ≡ expander_number (sheet_of text.now).expander) × (sheet.count ≡ length (sheet_of text.now).lines) }
     ensures { left result out.new ≡ exit (written_in (search_text (sheet_of text.now)) (length out.old)) out.old }
 {
     let mut seeds0 = [0u8; 512];
@@ -109,10 +105,7 @@ pub(crate) fn solve(text: &[u8], n: u16, t: u64, expander: u64, count: u16, out:
     let mut printed = [0u8; 43232];
     let end = print_answer(
         text,
-        n,
-        t,
-        expander,
-        count,
+        sheet,
         &mut seeds0,
         &mut seeds1,
         &mut shares,

@@ -7,16 +7,16 @@ ghost use Rattle.exam_lines.specs.Lines.{prefix_line, heavy_line, refused_text};
 use fields::{write_number, write_string, write_word};
 
 // What stands between two fields of a line.
-const SPACE: u8 = 32;
+const SPACE: u8 = b' ';
 
 // What ends a line.
-const NEWLINE: u8 = 10;
+const NEWLINE: u8 = b'\n';
 
 // The word `heavy`.
-const HEAVY: [u8; 5] = [104, 101, 97, 118, 121];
+const HEAVY: [u8; 5] = *b"heavy";
 
 // The word `refused`.
-const REFUSED: [u8; 7] = [114, 101, 102, 117, 115, 101, 100];
+const REFUSED: [u8; 7] = *b"refused";
 
 // Writes the line of a prefix of k bits and its total.
 pub(crate) fn put_prefix_line(

@@ -1,107 +1,69 @@
 // The decimal fields of a first line or of a key line: a number of one to five digits and the character behind it.
-ghost use Rattle.std.specs.Prelude.{◌≡◌, true, ◌+◌, ◌-◌, ◌≤◌, ◌<◌, length, drop};
-ghost use Rattle.exam_text.specs.Reader.{is_decimal, leading, is_number, first_number};
-ghost use Rattle.exam_text.proofs.Reading.{FieldRead};
+ghost use Rattle.std.specs.Prelude.{◌≡◌, true, ◌≤◌, ◌<◌, length, drop, is_some, IfSome};
+ghost use Rattle.std.specs.List.{list_all};
+ghost use Rattle.exam_text.specs.Reader.{is_decimal, leading, is_number, number_then, number_after};
+ghost use Rattle.exam_text.proofs.Reading.{FieldSays};
 
-use places::byte_at;
+// What stands between two fields.
+pub(crate) const SPACE: u8 = b' ';
 
-// Whether a field is laid out so, its number, and the place behind it; all 0 where it is not.
+// What ends a line.
+pub(crate) const NEWLINE: u8 = b'\n';
+
+// A field: its number, and the place behind the character that ends it.
 #[derive(Clone, Copy)]
 pub(crate) struct Field {
-    pub(crate) laid_out: bool,
     pub(crate) value: usize,
     pub(crate) behind: usize,
 }
 
-// Whether a character is a decimal digit.
-pub(crate) fn is_decimal(c: u8) -> bool
-    ensures { result ≡ is_decimal c }
+// How many digits a text begins with.
+fn digits_length(text: &[u8]) -> usize
+    ensures { result ≡ length (leading text.now) }
 {
-    if c < 48 {
-        return false;
-    }
-    c <= 57
+    text.iter().take_while(|c| c.is_ascii_digit()).count()
 }
 
-// Where the digits that begin at a place end.
-fn digits_end(text: &[u8], at: usize) -> usize
-    requires { at ≤ length text.now }
-    ensures { (result ≡ at + length (leading (drop at text.now))) × (result ≤ length text.now) }
+// Whether digits are laid out as a number.
+fn is_number(digits: &[u8]) -> bool
+    ensures { result ≡ is_number digits.now }
 {
-    let mut i = at;
-    while i < text.len() {
-        if !is_decimal(text[i]) {
-            return i;
-        }
-        i += 1;
+    match digits.len() {
+        1 => true,
+        2..=5 => digits[0] != b'0',
+        _ => false,
     }
-    i
 }
 
-// Whether the digits from place `at` to `end` are laid out as a number.
-fn is_number(text: &[u8], at: usize, end: usize) -> bool
-    requires { (end ≡ at + length (leading (drop at text.now))) × (end ≤ length text.now) }
-    ensures { result ≡ is_number (leading (drop at text.now)) }
-{
-    let size = end - at;
-    if size < 1 {
-        return false;
-    }
-    if 5 < size {
-        return false;
-    }
-    if size == 1 {
-        return true;
-    }
-    text[at] != 48
-}
-
-// The value of a decimal digit.
-fn digit_value(c: u8) -> usize
-    requires { is_decimal c ≡ true }
-    ensures { (result ≡ c - 48) × (result ≤ 9) }
-{
-    (c - 48) as usize
-}
-
-// The number that the digits from place `at` to `end`, at most five, are.
-fn number_in(text: &[u8], at: usize, end: usize) -> usize
-    requires { (end ≡ at + length (leading (drop at text.now))) × (end ≤ length text.now) × (end ≤ at + 5) }
-    ensures { result ≡ first_number (drop at text.now) }
+// The number that at most five digits are.
+fn number_of(digits: &[u8]) -> usize
+    requires { (length digits.now ≤ 5) × (list_all is_decimal digits.now ≡ true) }
+    ensures { result ≡ number_after 0 digits.now }
 {
     let mut x = 0;
-    let mut i = at;
-    while i < end {
-        x = 10 * x + digit_value(text[i]);
-        i += 1;
+    for c in digits {
+        x = 10 * x + usize::from(*c - b'0');
     }
     x
 }
 
 // The field at a place that the character `then` ends.
-pub(crate) fn read_field(text: &[u8], at: usize, then: u8) -> Field
+pub(crate) fn read_field(text: &[u8], at: usize, then: u8) -> Option<Field>
     requires { (at ≤ length text.now) × (0 < then) }
-    ensures { FieldRead text.now at then result.laid_out result.value result.behind }
+    ensures laid { is_some result ≡ number_then then (drop at text.now) }
+    ensures says { IfSome result (λ f. FieldSays text.now (drop at text.now) f.value f.behind) }
 {
-    let end = digits_end(text, at);
-    if !is_number(text, at, end) {
-        return Field {
-            laid_out: false,
-            value: 0,
-            behind: 0,
-        };
+    let rest = &text[at..];
+    let size = digits_length(rest);
+    let digits = &rest[..size];
+    if !is_number(digits) {
+        return None;
     }
-    if byte_at(text, end) != then {
-        return Field {
-            laid_out: false,
-            value: 0,
-            behind: 0,
-        };
-    }
-    let value = number_in(text, at, end);
-    Field {
-        laid_out: true,
-        value,
-        behind: end + 1,
+    match rest.get(size) {
+        Some(c) if *c == then => Some(Field {
+            value: number_of(digits),
+            behind: at + size + 1,
+        }),
+        _ => None,
     }
 }

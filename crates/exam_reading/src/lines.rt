@@ -1,129 +1,67 @@
 // The lines behind the first one: whether they are laid out as strings and seeds.
-ghost use Rattle.std.specs.Prelude.{◌≡◌, ◌&&◌, ◌+◌, ◌*◌, ◌≤◌, ◌<◌, length, get_or, take, drop, eqb};
+ghost use Rattle.std.specs.Prelude.{◌≡◌, ◌*◌, ◌≤◌, length};
 ghost use Rattle.exam_text.specs.Reader.{is_hex, are_bits, are_hex, line_length, is_line, are_lines, has_line};
 
-use crate::fields::is_decimal;
-
-// Whether each of n characters from a place on is `0` or `1`.
-fn are_bits(text: &[u8], at: usize, n: usize) -> bool
-    requires { at + n ≤ length text.now }
-    ensures { result ≡ are_bits (take n (drop at text.now)) }
+// Whether each character is `0` or `1`.
+fn are_bits(characters: &[u8]) -> bool
+    ensures { result ≡ are_bits characters.now }
 {
-    let mut left = n;
-    let mut i = at;
-    while 0 < left {
-        let c = text[i];
-        if c < 48 {
-            return false;
-        }
-        if 49 < c {
-            return false;
-        }
-        i += 1;
-        left -= 1;
-    }
-    true
+    characters.iter().all(|c| *c == b'0' || *c == b'1')
 }
 
 // Whether a character is a lower-case hexadecimal digit.
 fn is_hex(c: u8) -> bool
     ensures { result ≡ is_hex c }
 {
-    if is_decimal(c) {
-        return true;
-    }
-    if c < 97 {
-        return false;
-    }
-    c <= 102
+    matches!(c, b'0'..=b'9' | b'a'..=b'f')
 }
 
-// Whether each of n characters from a place on is such a digit.
-fn are_hex(text: &[u8], at: usize, n: usize) -> bool
-    requires { at + n ≤ length text.now }
-    ensures { result ≡ are_hex (take n (drop at text.now)) }
+// Whether each character is such a digit.
+fn are_hex(characters: &[u8]) -> bool
+    ensures { result ≡ are_hex characters.now }
 {
-    let mut left = n;
-    let mut i = at;
-    while 0 < left {
-        if !is_hex(text[i]) {
-            return false;
-        }
-        i += 1;
-        left -= 1;
-    }
-    true
+    characters.iter().all(|c| is_hex(*c))
 }
 
-// Whether the 32 digits of a seed stand at a place and the character `then` behind them.
-fn seed_then(text: &[u8], at: usize, then: u8) -> bool
-    requires { at + 33 ≤ length text.now }
-    ensures { result ≡ (are_hex (take 32 (drop at text.now)) && eqb (get_or text.now (at + 32) 0) then) }
+// How long a line is for strings of n bits: the string, two seeds of 32 digits, two spaces and the newline.
+pub(crate) fn line_length(n: usize) -> usize
+    requires { n ≤ 32 }
+    ensures { result ≡ line_length n }
 {
-    if !are_hex(text, at, 32) {
-        return false;
-    }
-    text[at + 32] == then
+    n + 67
 }
 
-// Whether the line at a place is laid out for strings of n bits.
-fn is_line(text: &[u8], at: usize, n: usize) -> bool
-    requires { at + line_length n ≤ length text.now }
-    ensures { result ≡ is_line n (take (line_length n) (drop at text.now)) }
+// Whether a line is laid out for strings of n bits.
+fn is_line(line: &[u8], n: usize) -> bool
+    requires { length line.now ≡ line_length n }
+    ensures { result ≡ is_line n line.now }
 {
-    if !are_bits(text, at, n) {
-        return false;
-    }
-    let end = at + n;
-    if text[end] != 32 {
-        return false;
-    }
-    if !seed_then(text, end + 1, 32) {
-        return false;
-    }
-    seed_then(text, end + 34, 10)
+    are_bits(&line[..n])
+        && line[n] == b' '
+        && are_hex(&line[n + 1..n + 33])
+        && line[n + 33] == b' '
+        && are_hex(&line[n + 34..n + 66])
+        && line[n + 66] == b'\n'
 }
 
-// Whether the text from a place on is `count` lines and nothing after them; its length is right.
-fn all_lines(text: &[u8], at: usize, n: usize, count: usize) -> bool
-    requires { (at + count * line_length n ≡ length text.now) × (n ≤ 32) }
-    ensures { result ≡ are_lines n count (drop at text.now) }
+// Whether a text is `count` lines for strings of n bits and nothing after them.
+pub(crate) fn are_lines(text: &[u8], n: usize, count: usize) -> bool
+    requires { (n ≤ 32) × (count ≤ 32) }
+    ensures { result ≡ are_lines n count text.now }
 {
-    let mut left = count;
-    let mut here = at;
-    while 0 < left {
-        if !is_line(text, here, n) {
-            return false;
-        }
-        here += n + 67;
-        left -= 1;
-    }
-    true
-}
-
-// Whether the text from a place on is `count` lines for strings of n bits and nothing after them.
-pub(crate) fn are_lines(text: &[u8], at: usize, n: usize, count: usize) -> bool
-    requires { (at ≤ length text.now) × (n ≤ 32) × (count ≤ 32) }
-    ensures { result ≡ are_lines n count (drop at text.now) }
-{
-    if text.len() - at != count * (n + 67) {
+    if text.len() != count * line_length(n) {
         return false;
     }
-    all_lines(text, at, n, count)
+    text.chunks_exact(line_length(n))
+        .all(|line| is_line(line, n))
 }
 
 // Whether a line for strings of n bits, at most 32, stands at a place.
 pub(crate) fn has_line(text: &[u8], at: usize, n: usize) -> bool
     ensures { result ≡ has_line n at text.now }
 {
-    if 32 < n {
+    if 32 < n || text.len() < at || text.len() - at < line_length(n) {
         return false;
     }
-    if text.len() < at {
-        return false;
-    }
-    if text.len() - at < n + 67 {
-        return false;
-    }
-    is_line(text, at, n)
+    is_line(&text[at..at + line_length(n)], n)
 }

@@ -33,31 +33,24 @@ pub fn make_reports(text: &[u8], seeds0: &mut [u8], seeds1: &mut [u8], shares: &
     ensures { made_with result seeds0.new seeds1.new shares.new
         ≡ reports_made (read_sheet text.now) seeds0.old seeds1.old shares.old }
 {
-    let sheet = read_sheet(text);
-    let n = sheet.n;
-    let count = sheet.count;
-    let expander = sheet.expander;
-    if !sheet.is_sheet {
+    let Some(sheet) = read_sheet(text) else {
+        return false;
+    };
+    if sheet.n < 1 {
         return false;
     }
-    if n < 1 {
+    if !expander::is_expander(sheet.expander) {
         return false;
     }
-    if !expander::is_expander(expander) {
+    if !fit(
+        sheet.n,
+        sheet.count,
+        seeds0.len(),
+        seeds1.len(),
+        shares.len(),
+    ) {
         return false;
     }
-    if !fit(n, count, seeds0.len(), seeds1.len(), shares.len()) {
-        return false;
-    }
-    write_reports(
-        text,
-        sheet.lines,
-        n,
-        expander,
-        count,
-        seeds0,
-        seeds1,
-        shares,
-    );
+    write_reports(text, sheet, seeds0, seeds1, shares);
     true
 }

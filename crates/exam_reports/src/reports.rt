@@ -8,7 +8,7 @@ ghost use Rattle.exam_text.specs.Reader.{are_lines, lines_of, has_line, line_at}
 ghost use Rattle.exam_reports.specs.SheetReports.{each_line, public_share_for};
 
 use bits::packed_length;
-use exam_reading::read_line;
+use exam_reading::{SheetHead, read_line};
 use nodes::public_share_length;
 use places::write16;
 
@@ -39,68 +39,64 @@ fn write_key(
     );
 }
 
-// Report i, of the line that begins at place `at` of the text.
+// Report i of a sheet, of the line that begins at place `at` of the text.
 fn write_report(
     text: &[u8],
     at: usize,
-    n: u16,
-    expander: u64,
+    sheet: SheetHead,
     i: usize,
     seeds0: &mut [u8],
     seeds1: &mut [u8],
     shares: &mut [u8],
 )
-    requires le_n { (1 ≤ n) × (n ≤ 32) × (is_expander expander ≡ true) × (has_line n at text.now ≡ true) }
+    requires le_n { (1 ≤ sheet.n) × (sheet.n ≤ 32) × (is_expander sheet.expander ≡ true) × (has_line sheet.n at text.now ≡ true) }
     requires i_in_bounds { (16 * i + 16 ≤ length seeds0.old) × (16 * i + 16 ≤ length seeds1.old) ×
-        (public_share_length n * i + public_share_length n ≤ length shares.old) }
-    ensures seeds0_after { seeds0.new ≡ put_at seeds0.old (16 * i) (line_at n at text.now).seed0 }
-    ensures seeds1_after { seeds1.new ≡ put_at seeds1.old (16 * i) (line_at n at text.now).seed1 }
-    ensures shares_after { shares.new ≡ put_at shares.old (public_share_length n * i) (public_share_for n expander (line_at n at text.now)) }
+        (public_share_length sheet.n * i + public_share_length sheet.n ≤ length shares.old) }
+    ensures seeds0_after { seeds0.new ≡ put_at seeds0.old (16 * i) (line_at sheet.n at text.now).seed0 }
+    ensures seeds1_after { seeds1.new ≡ put_at seeds1.old (16 * i) (line_at sheet.n at text.now).seed1 }
+    ensures shares_after { shares.new ≡ put_at shares.old (public_share_length sheet.n * i) (public_share_for sheet.n sheet.expander (line_at sheet.n at text.now)) }
 {
-    let line = read_line(text, at, n);
-    let string = line.string;
-    let seed0 = line.seed0;
-    let seed1 = line.seed1;
-    let end = packed_length(n as usize);
-    write16(seeds0, 16 * i, seed0);
-    write16(seeds1, 16 * i, seed1);
+    let line = read_line(text, at, sheet.n);
+    let end = packed_length(usize::from(sheet.n));
+    write16(seeds0, 16 * i, line.seed0);
+    write16(seeds1, 16 * i, line.seed1);
     write_key(
-        n,
-        expander,
-        &string[..end],
-        &seed0,
-        &seed1,
+        sheet.n,
+        sheet.expander,
+        &line.string[..end],
+        &line.seed0,
+        &line.seed1,
         shares,
-        public_share_length(n) * i,
+        public_share_length(sheet.n) * i,
     );
 }
 
-// The reports of `count` lines, the first of which begins at place `at` of the text, into the beginnings of the areas.
+// The reports of a sheet, whose lines stand in the text, into the beginnings of the areas.
 pub(crate) fn write_reports(
     text: &[u8],
-    at: usize,
-    n: u16,
-    expander: u64,
-    count: u16,
+    sheet: SheetHead,
     seeds0: &mut [u8],
     seeds1: &mut [u8],
     shares: &mut [u8],
 )
-    requires le_n { (1 ≤ n) × (n ≤ 32) × (is_expander expander ≡ true) × (are_lines n count (drop at text.now) ≡ true) }
-    requires count_in_bounds { (16 * count ≤ length seeds0.old) × (16 * count ≤ length seeds1.old) × (public_share_length n * count ≤ length shares.old) }
-    ensures seeds0_after { seeds0.new ≡ overlay (each_line (λ l. l.seed0) (lines_of n count (drop at text.now))) seeds0.old }
-    ensures seeds1_after { seeds1.new ≡ overlay (each_line (λ l. l.seed1) (lines_of n count (drop at text.now))) seeds1.old }
-    ensures shares_after { shares.new ≡ overlay (each_line (public_share_for n expander) (lines_of n count (drop at text.now)))
+    requires le_n { (1 ≤ sheet.n) × (sheet.n ≤ 32) × (is_expander sheet.expander ≡ true) × (are_lines sheet.n sheet.count (drop sheet.lines text.now) ≡ true) }
+    requires count_in_bounds { (16 * sheet.count ≤ length seeds0.old) × (16 * sheet.count ≤ length seeds1.old) ×
+        (public_share_length sheet.n * sheet.count ≤ length shares.old) }
+    ensures seeds0_after { seeds0.new ≡ overlay (each_line (λ l. l.seed0) (lines_of sheet.n sheet.count (drop sheet.lines text.now))) seeds0.old }
+    ensures seeds1_after { seeds1.new ≡ overlay (each_line (λ l. l.seed1) (lines_of sheet.n sheet.count (drop sheet.lines text.now))) seeds1.old }
+    ensures shares_after { shares.new ≡ overlay (each_line (public_share_for sheet.n sheet.expander) (lines_of sheet.n sheet.count (drop sheet.lines text.now)))
         shares.old }
 {
-    let size = n as usize + 67;
-    let mut here = at;
-    let mut i: usize = 0;
-    let mut left = count;
-    while 0 < left {
-        write_report(text, here, n, expander, i, seeds0, seeds1, shares);
-        here += size;
-        i += 1;
-        left -= 1;
+    let size = usize::from(sheet.n) + 67;
+    for i in 0..usize::from(sheet.count) {
+        write_report(
+            text,
+            sheet.lines + i * size,
+            sheet,
+            i,
+            seeds0,
+            seeds1,
+            shares,
+        );
     }
 }

@@ -1,55 +1,54 @@
--- The digits at a place of a text, and the number that they are.
-use Prim.Native.Nat.{ℕ, suc, ◌+◌, ◌-◌, ◌*◌, ◌^◌, ◌≤◌, ◌<◌}
-use native.Mathlib.Decide.{dec_lt}
+-- The digits with which a text begins, and the number that digits are.
+use Prim.Native.Nat.{ℕ, zero, suc, ◌+◌, ◌-◌, ◌*◌, ◌^◌, ◌≤◌, ◌<◌}
 use native.Mathlib.Nat.{pow-succ', pow-le-pow_right}
 use native.Mathlib.Omega.{arith}
-use mathlib.Core.Path.{◌≡◌, refl, ◌∙◌}
-use mathlib.Core.Bool.{Bool, true, false, cond}
+use mathlib.Core.Path.{◌≡◌, refl, ap}
+use mathlib.Core.Bool.{Bool, true, false}
 use mathlib.Core.List.{List, [], ◌∷◌}
-use lib.ListN.{length, get_or, drop, drop_of_length-le}
+use lib.ListN.{length, get_or, take, drop}
 use lib.Seq.{drop-cons}
+use Rattle.std.specs.List.{list_all, prefix_len}
+use Rattle.places.proofs.Lists.{and_left, and_right}
 use Rattle.exam_text.specs.Reader.{is_decimal, leading, number_after}
 
--- ---- the digits at a place
+-- ---- the digits
 
-module _ (t : List ℕ) (i : ℕ) where
-  pub leading_past : length t ≤ i → leading (drop i t) ≡ []
-  unfolding leading
-  leading_past h = rw (drop_of_length-le t h)
+-- they are as many as the library counts
+pub leading_length : (cs : List ℕ) → prefix_len is_decimal cs ≡ length (leading cs)
+unfolding leading
+leading_length [] = refl
+leading_length (c ∷ cs) = elim (is_decimal c) as (λ (b : Bool). is_decimal c ≡ b → prefix_len is_decimal (c ∷ cs) ≡ length (leading (c ∷ cs))) [
+  | true ↦ λ e. rw e (omega (arith, leading_length cs))
+  | false ↦ λ e. rw e
+] refl
 
-  module _ (h : i < length t) where
-    leading_step : leading (drop i t) ≡ cond (is_decimal (get_or t i 0)) (get_or t i 0 ∷ leading (drop (suc i) t)) []
-    unfolding leading
-    leading_step = rw (drop-cons t i 0 h)
+pub leading_taken : (cs : List ℕ) → take (length (leading cs)) cs ≡ leading cs
+unfolding leading
+leading_taken [] = refl
+leading_taken (c ∷ cs) = elim (is_decimal c) as (λ (b : Bool). is_decimal c ≡ b → take (length (leading (c ∷ cs))) (c ∷ cs) ≡ leading (c ∷ cs)) [
+  | true ↦ λ e. rw e (ap (λ (l : List ℕ). c ∷ l) (leading_taken cs))
+  | false ↦ λ e. rw e
+] refl
 
-    pub leading_yes : is_decimal (get_or t i 0) ≡ true → leading (drop i t) ≡ get_or t i 0 ∷ leading (drop (suc i) t)
-    leading_yes e = leading_step ∙ rw e
+pub leading_digits : (cs : List ℕ) → list_all is_decimal (leading cs) ≡ true
+unfolding leading
+leading_digits [] = refl
+leading_digits (c ∷ cs) = elim (is_decimal c) as (λ (b : Bool). is_decimal c ≡ b → list_all is_decimal (leading (c ∷ cs)) ≡ true) [
+  | true ↦ λ e. rw (e, e) (leading_digits cs)
+  | false ↦ λ e. rw e
+] refl
 
-    pub leading_no : is_decimal (get_or t i 0) ≡ false → leading (drop i t) ≡ []
-    leading_no e = leading_step ∙ rw e
+-- each of them is one
+pub digit_at : (cs : List ℕ) (i : ℕ) → list_all is_decimal cs ≡ true → i < length cs → is_decimal (get_or cs i 0) ≡ true
+digit_at [] i e h = absurd (omega arith)
+digit_at (c ∷ cs) zero e h = and_left (is_decimal c) (list_all is_decimal cs) e
+digit_at (c ∷ cs) (suc i) e h = digit_at cs i (and_right (is_decimal c) (list_all is_decimal cs) e) (omega arith)
 
-  module _ (h : 0 < length (leading (drop i t))) where
-    -- where there are digits, there is a character
-    pub leading_within : i < length t
-    leading_within = elim (dec_lt i (length t)) [
-      | yes a ↦ a
-      | no a ↦ absurd (omega (arith, rw (leading_past (omega arith)) at h))
-    ]
+-- ---- the number
 
-    -- and it is one
-    pub leading_digit : is_decimal (get_or t i 0) ≡ true
-    leading_digit = go (is_decimal (get_or t i 0)) refl
-      where
-        go : (b : Bool) → is_decimal (get_or t i 0) ≡ b → b ≡ true
-        go true e = refl
-        go false e = absurd (omega (arith, rw (leading_no leading_within e) at h))
-
-    pub leading_cons : leading (drop i t) ≡ get_or t i 0 ∷ leading (drop (suc i) t)
-    leading_cons = leading_yes leading_within leading_digit
-
-    pub number_step : (x : ℕ) → number_after x (leading (drop i t)) ≡ number_after (10 * x + (get_or t i 0 - 48)) (leading (drop (suc i) t))
-    unfolding number_after
-    number_step x = rw leading_cons
+pub number_step : (x : ℕ) (ds : List ℕ) (i : ℕ) → i < length ds → number_after x (drop i ds) ≡ number_after (10 * x + (get_or ds i 0 - 48)) (drop (suc i) ds)
+unfolding number_after
+number_step x ds i h = rw (drop-cons ds i 0 h)
 
 pub number_none : (x : ℕ) (ds : List ℕ) → length ds ≡ 0 → number_after x ds ≡ x
 unfolding number_after

@@ -1,70 +1,48 @@
--- A field of a first line: the tests in their order, and what stands behind it.
-use Prim.Native.Nat.{ℕ, suc, ◌+◌, ◌≤◌, ◌<◌}
-use native.Mathlib.Decide.{dec_lt}
+-- A field of a first line: its digits, and what stands behind it.
+use Prim.Native.Nat.{ℕ, suc, ◌+◌, ◌-◌, ◌≤◌, ◌<◌}
 use native.Mathlib.Omega.{arith}
-use mathlib.Core.Path.{◌≡◌, sym, ◌∙◌}
-use mathlib.Core.Bool.{true, false, false≢true, not, ◌&&◌, ◌||◌}
+use mathlib.Core.Path.{◌≡◌, sym, ap, ◌∙◌}
+use mathlib.Core.Bool.{true, false, ◌&&◌}
 use mathlib.Core.List.{List}
-use borrow.Author.Tests.{leb-true, le-leb, lt-leb, eq-eqb, ne_eqb}
-use lib.ListN.{length, get_or, drop, get_or-eq_default}
-use lib.Seq.{drop-drop, get_or-drop}
-use lib.Dec.{leb, eqb}
+use borrow.Author.Tests.{leb-true, eq-eqb}
+use lib.ListN.{length, get_or, take, drop, length-drop}
+use lib.Seq.{drop-drop, take_all}
+use lib.Dec.{leb}
 use Rattle.places.proofs.Lists.{and_left, and_right}
-use Rattle.exam_text.specs.Reader.{leading, is_number, number_then, first_number, behind}
-use Rattle.exam_text.proofs.Reading.{FieldRead}
-
--- ---- whether digits are a number
-
-module _ (ds : List ℕ) (size : ℕ) (e : size ≡ length ds) where
-  all_tests : is_number ds ≡ (leb 1 size && leb size 5 && (eqb size 1 || not (eqb (get_or ds 0 0) 48)))
-  all_tests = rw e
-
-  pub no_digit : size < 1 → is_number ds ≡ false
-  no_digit h = all_tests ∙ rw (lt-leb 1 size h)
-
-  module _ (a : 1 ≤ size) where
-    pub too_many : 5 < size → is_number ds ≡ false
-    too_many h = all_tests ∙ rw (le-leb 1 size a, lt-leb size 5 h)
-
-    module _ (b : size ≤ 5) where
-      pub one_digit : size ≡ 1 → is_number ds ≡ true
-      one_digit h = all_tests ∙ rw (le-leb 1 size a, le-leb size 5 b, eq-eqb size 1 h)
-
-      pub first_digit : (size ≡ 1 → ⊥) → is_number ds ≡ not (eqb (get_or ds 0 0) 48)
-      first_digit h = all_tests ∙ rw (le-leb 1 size a, le-leb size 5 b, ne_eqb size 1 h)
+use Rattle.exam_text.specs.Reader.{leading, is_number, number_then, number_after}
+use Rattle.exam_text.proofs.Digits.{leading_taken}
+use Rattle.exam_text.proofs.Reading.{FieldSays}
 
 pub number_short : (ds : List ℕ) → is_number ds ≡ true → length ds ≤ 5
 number_short ds e = leb-true (length ds) 5 (and_right (leb 1 (length ds)) _ (and_left (leb 1 (length ds) && leb (length ds) 5) _ e))
 
--- ---- the field
+-- a text from a place on
+pub rest_is : (t : List ℕ) (at : ℕ) → take (length t - at) (drop at t) ≡ drop at t
+rest_is t at = take_all (length t - at) (drop at t) (omega (arith, length-drop at t))
 
-module _ (t : List ℕ) (at c end : ℕ) (e : end ≡ at + length (leading (drop at t))) where
-  both_tests : number_then c (drop at t) ≡ (is_number (leading (drop at t)) && eqb (get_or t end 0) c)
-  both_tests = rw (get_or-drop at t (length (leading (drop at t))) 0, e)
+-- so many digits stand at a place of a text
+module _ (t : List ℕ) (at size : ℕ) (e : size ≡ length (leading (take (length t - at) (drop at t)))) where
+  pub size_is : size ≡ length (leading (drop at t))
+  size_is = e ∙ ap (λ (l : List ℕ). length (leading l)) (rest_is t at)
 
-  pub field_no_number : is_number (leading (drop at t)) ≡ false → FieldRead t at c false 0 0
-  field_no_number h = record { laid = sym (both_tests ∙ rw h); says = λ f. absurd (false≢true f) }
+  pub digits_are : take size (take (length t - at) (drop at t)) ≡ leading (drop at t)
+  digits_are = rw (rest_is t at, size_is) (leading_taken (drop at t))
 
-  module _ (a : is_number (leading (drop at t)) ≡ true) where
-    pub field_other : (get_or t end 0 ≡ c → ⊥) → FieldRead t at c false 0 0
-    field_other h = record { laid = sym (both_tests ∙ rw (a, ne_eqb (get_or t end 0) c h)); says = λ f. absurd (false≢true f) }
+  pub digits_within : size ≡ length (take size (take (length t - at) (drop at t)))
+  digits_within = size_is ∙ ap length (sym digits_are)
 
-    module _ (b : get_or t end 0 ≡ c) (pos : 0 < c) where
-      -- the character that ends the field stands in the text
-      pub field_within : end < length t
-      field_within = elim (dec_lt end (length t)) [
-        | yes h ↦ h
-        | no h ↦ absurd (omega (arith, get_or-eq_default t 0 {n = end} (omega arith)))
-      ]
+  pub no_number : (c : ℕ) → is_number (take size (take (length t - at) (drop at t))) ≡ false → number_then c (drop at t) ≡ false
+  no_number c f = rw (sym (ap is_number digits_are) ∙ f)
 
-      behind_same : drop (end + 1) t ≡ behind (drop at t)
-      behind_same =
-          let f : end + 1 ≡ at + suc (length (leading (drop at t))) = omega arith in
-          rw f (sym (drop-drop (suc (length (leading (drop at t)))) at t))
+  pub number_ends : (c : ℕ) → is_number (take size (take (length t - at) (drop at t))) ≡ true → get_or (take (length t - at) (drop at t)) size 0 ≡ c → number_then c (drop at t) ≡ true
+  number_ends c f g =
+      let h : get_or (drop at t) (length (leading (drop at t))) 0 ≡ c = rw (← size_is, ← rest_is t at) g in
+      rw (sym (ap is_number digits_are) ∙ f, eq-eqb _ c h)
 
-      pub field_laid : (x : ℕ) → x ≡ first_number (drop at t) → FieldRead t at c true x (end + 1)
-      field_laid x f =
-          record {
-            laid = sym (both_tests ∙ rw (a, eq-eqb (get_or t end 0) c b));
-            says = λ q. record { number_read = f; rest = record { within = omega (arith, field_within); same = behind_same } };
-          }
+  pub field_says : (x : ℕ) → at + size < length t → x ≡ number_after 0 (take size (take (length t - at) (drop at t))) → FieldSays t (drop at t) x (at + size + 1)
+  field_says x h f =
+      let p : at + size + 1 ≡ at + suc (length (leading (drop at t))) = omega (arith, size_is) in
+      record {
+        number_read = f ∙ ap (number_after 0) digits_are;
+        rest = record { within = omega arith; same = rw p (sym (drop-drop (suc (length (leading (drop at t)))) at t)) };
+      }

@@ -2,7 +2,7 @@
 use Prim.Native.Nat.{ℕ, ◌+◌, ◌*◌, ◌≤◌, ◌<◌}
 use native.Mathlib.Omega.{arith}
 use mathlib.Core.Path.{◌≡◌, sym, ◌∙◌}
-use mathlib.Core.Bool.{Bool, true, false, ◌&&◌}
+use mathlib.Core.Bool.{true, false, ◌&&◌}
 use mathlib.Core.List.{List}
 use borrow.Author.Tests.{le-leb, lt-leb}
 use lib.ListN.{take, drop}
@@ -11,7 +11,7 @@ use lib.Dec.{leb}
 use Rattle.exam_text.specs.Characters.{space}
 use Rattle.exam_text.specs.Reader.{number_then, second, third, line_length, line_of, are_lines, lines_of, has_line, no_line, line_at}
 use Rattle.exam_text.specs.KeyLine.{is_key_line, key_line_of, KeyLineSays}
-use Rattle.exam_text.proofs.Reading.{FieldRead}
+use Rattle.exam_text.proofs.Reading.{FieldSays}
 use Rattle.exam_text.proofs.LineTests.{lines_length}
 use Rattle.exam_text.proofs.Placed.{line_stands, line_placed}
 
@@ -30,29 +30,26 @@ module _ (t : List ℕ) (n at : ℕ) (short : n ≤ 32) (e : are_lines n 1 (drop
   unfolding lines_of
   one_placed = rw (← whole) (sym (rw first_at at (line_placed t at n 1 0 (omega arith) short e no_line)))
 
-module _ (t : List ℕ) (b₁ : Bool) (x₁ h₁ : ℕ) (f₁ : FieldRead t 0 space b₁ x₁ h₁) where
-  pub no_n : b₁ ≡ false → is_key_line t ≡ false
+module _ (t : List ℕ) where
+  pub no_n : number_then space t ≡ false → is_key_line t ≡ false
   unfolding is_key_line
-  no_n e = rw (sym f₁.laid ∙ e)
+  no_n e = rw e
 
-  module _ (e₁ : b₁ ≡ true) (b₂ : Bool) (x₂ h₂ : ℕ) (f₂ : FieldRead t h₁ space b₂ x₂ h₂) where
+  module _ (e₁ : number_then space t ≡ true) (x₁ h₁ : ℕ) (s₁ : FieldSays t t x₁ h₁) where
     at_second : drop h₁ t ≡ second t
-    at_second = (f₁.says e₁).rest.same
+    at_second = s₁.rest.same
 
-    second_laid : b₂ ≡ number_then space (second t)
-    second_laid = f₂.laid ∙ rw at_second
-
-    pub no_expander : b₂ ≡ false → is_key_line t ≡ false
+    pub no_expander : number_then space (drop h₁ t) ≡ false → is_key_line t ≡ false
     unfolding is_key_line
-    no_expander e = rw (sym f₁.laid ∙ e₁, sym second_laid ∙ e)
+    no_expander e = rw (e₁, rw at_second at e)
 
-    module _ (e₂ : b₂ ≡ true) where
+    module _ (e₂ : number_then space (drop h₁ t) ≡ true) (x₂ h₂ : ℕ) (s₂ : FieldSays t (drop h₁ t) x₂ h₂) where
       at_third : drop h₂ t ≡ third t
-      at_third = (f₂.says e₂).rest.same ∙ rw at_second
+      at_third = s₂.rest.same ∙ rw at_second
 
       left : is_key_line t ≡ (leb x₁ 32 && are_lines x₁ 1 (drop h₂ t))
       unfolding is_key_line
-      left = rw (sym f₁.laid ∙ e₁, sym second_laid ∙ e₂, (f₁.says e₁).number_read, at_third)
+      left = rw (e₁, rw at_second at e₂, s₁.number_read, at_third)
 
       pub n_too_wide : 32 < x₁ → is_key_line t ≡ false
       n_too_wide h = left ∙ rw (lt-leb x₁ 32 h)
@@ -64,10 +61,10 @@ module _ (t : List ℕ) (b₁ : Bool) (x₁ h₁ : ℕ) (f₁ : FieldRead t 0 sp
         pub key_says : are_lines x₁ 1 (drop h₂ t) ≡ true → KeyLineSays t x₁ x₂ h₂
         unfolding key_line_of
         key_says e = record {
-          n_read = (f₁.says e₁).number_read;
-          expander_read = (f₂.says e₂).number_read ∙ rw at_second;
+          n_read = s₁.number_read;
+          expander_read = s₂.number_read ∙ rw at_second;
           n_most = short;
           placed = at_third;
           stands = one_stands t x₁ h₂ short e;
-          line_read = one_placed t x₁ h₂ short e ∙ rw ((f₁.says e₁).number_read, at_third);
+          line_read = one_placed t x₁ h₂ short e ∙ rw (s₁.number_read, at_third);
         }

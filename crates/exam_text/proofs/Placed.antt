@@ -2,7 +2,7 @@
 use Prim.Native.Nat.{ℕ, zero, suc, ◌+◌, ◌*◌, ◌≤◌, ◌<◌}
 use native.Mathlib.Nat.{suc-mul, mul-le-mul_right}
 use native.Mathlib.Omega.{arith}
-use mathlib.Core.Path.{◌≡◌, sym, ap, ◌∙◌}
+use mathlib.Core.Path.{◌≡◌, ◌∙◌}
 use mathlib.Core.Bool.{true, false, ◌&&◌}
 use mathlib.Core.List.{List}
 use borrow.Author.Tests.{leb-true, le-leb}
@@ -12,8 +12,8 @@ use lib.Dec.{leb}
 use Rattle.places.specs.Places.{Bytes}
 use Rattle.places.proofs.Lists.{and_left, and_right}
 use Rattle.exam_text.specs.Sheet.{Line}
-use Rattle.exam_text.specs.Reader.{are_hex, bits_read, bytes_read, line_length, is_line, line_of, are_lines, lines_of, is_first_line, after_first_line, length_read, count_read, is_sheet, sheet_of, has_line, no_line, line_at}
-use Rattle.exam_text.proofs.LineTests.{string_part_lem, seed0_part_lem, seed1_part_lem, line_tests_lem, tests_seed0, tests_seed1, lines_length}
+use Rattle.exam_text.specs.Reader.{line_length, is_line, line_of, are_lines, lines_of, is_first_line, after_first_line, length_read, count_read, is_sheet, sheet_of, has_line, no_line, line_at}
+use Rattle.exam_text.proofs.LineTests.{lines_length}
 use Rattle.exam_text.proofs.LinesText.{line_string, line_seeds}
 use Rattle.exam_text.proofs.SheetTests.{lines_count}
 
@@ -64,10 +64,16 @@ module _ (n at : ℕ) (t : List ℕ) (e : has_line n at t ≡ true) where
     and_right (leb n 32 && leb (at + line_length n) (length t)) (is_line n (take (line_length n) (drop at t))) e,
   )
 
+  pub stands_short : n ≤ 32
+  stands_short = leb-true n 32 (and_left (leb n 32) (leb (at + line_length n) (length t)) tests.0)
+
+  pub stands_laid : is_line n (take (line_length n) (drop at t)) ≡ true
+  stands_laid = tests.1
+
   pub stands_within : at + line_length n ≤ length t
   stands_within = leb-true (at + line_length n) (length t) (and_right (leb n 32) (leb (at + line_length n) (length t)) tests.0)
 
-  stands_is : line_at n at t ≡ line_of n (take (line_length n) (drop at t))
+  pub stands_is : line_at n at t ≡ line_of n (take (line_length n) (drop at t))
   unfolding line_at
   stands_is = rw e
 
@@ -77,24 +83,6 @@ module _ (n at : ℕ) (t : List ℕ) (e : has_line n at t ≡ true) where
       let size : length cs ≡ line_length n = length-take-le (line_length n) (drop at t) (omega (arith, stands_within, length-drop at t)) in
       let seeds = line_seeds n cs size tests.1 in
       rw stands_is (record { bits = line_string n cs size tests.1; sized0 = seeds.0; sized1 = seeds.1 })
-
-  -- Its parts stand at their places.
-  pub string_stands : bits_read (take n (drop at t)) ≡ (line_at n at t).string
-  unfolding line_of
-  string_stands = rw stands_is (ap bits_read (sym (string_part_lem t at n)))
-
-  pub seed0_stands : bytes_read (take 32 (drop (at + n + 1) t)) ≡ (line_at n at t).seed0
-  unfolding line_of
-  seed0_stands = rw stands_is (ap bytes_read (sym (seed0_part_lem t at n)))
-
-  pub seed1_stands : bytes_read (take 32 (drop (at + n + 34) t)) ≡ (line_at n at t).seed1
-  unfolding line_of
-  seed1_stands = rw stands_is (ap bytes_read (sym (seed1_part_lem t at n)))
-
-  pub seeds_hex : (are_hex (take 32 (drop (at + n + 1) t)) ≡ true) × (are_hex (take 32 (drop (at + n + 34) t)) ≡ true)
-  seeds_hex =
-      let passed = sym (line_tests_lem t at n) ∙ tests.1 in
-      (tests_seed0 t at n passed, tests_seed1 t at n passed)
 
 -- ---- line i of the m lines that stand in the text from place `lines` on
 

@@ -1,13 +1,13 @@
 -- What the code that reads a first line finds at a place of a text, for contracts that are not published.
 use Prim.Native.Nat.{ℕ, ◌≤◌}
 use mathlib.Core.Path.{◌≡◌}
-use mathlib.Core.Bool.{Bool, true, cond, ◌&&◌, ◌||◌}
+use mathlib.Core.Bool.{Bool, cond, ◌&&◌, ◌||◌}
 use mathlib.Core.List.{List}
 use mathlib.Core.Option.{Option, none, some}
 use lib.ListN.{length, drop}
 use Rattle.exam_text.specs.Characters.{space, newline}
 use Rattle.exam_text.specs.Sheet.{expander_number}
-use Rattle.exam_text.specs.Reader.{number_then, first_number, behind, is_first_line, length_read, threshold_read, count_read, expander_of, after_first_line}
+use Rattle.exam_text.specs.Reader.{number_then, first_number, behind, length_read, threshold_read, count_read, expander_of, after_first_line}
 
 -- the place `here` of a text is where the rest begins
 pub record Rest (text : List ℕ) (here : ℕ) (rest : List ℕ) : Type 0 where
@@ -18,11 +18,6 @@ pub record Rest (text : List ℕ) (here : ℕ) (rest : List ℕ) : Type 0 where
 pub record FieldSays (text cs : List ℕ) (number here : ℕ) : Type 0 where
   pub number_read : number ≡ first_number cs
   pub rest : Rest text here (behind cs)
-
--- a field at a place, which the character c ends
-pub record FieldRead (text : List ℕ) (at c : ℕ) (laid_out : Bool) (number here : ℕ) : Type 0 where
-  pub laid : laid_out ≡ number_then c (drop at text)
-  pub says : laid_out ≡ true → FieldSays text (drop at text) number here
 
 -- the end of a first line at the text cs, its third number: whether it is laid out, its expander, and what stands behind it
 abbrev pub is_end : List ℕ → Bool
@@ -40,11 +35,6 @@ pub record EndSays (text cs : List ℕ) (count expander here : ℕ) : Type 0 whe
   pub expander_read : expander ≡ expander_number (end_expander cs)
   pub rest : Rest text here (after_end cs)
 
--- the end of a first line at a place
-pub record EndRead (text : List ℕ) (at : ℕ) (laid_out : Bool) (count expander here : ℕ) : Type 0 where
-  pub laid : laid_out ≡ is_end (drop at text)
-  pub says : laid_out ≡ true → EndSays text (drop at text) count expander here
-
 -- what a first line says
 pub record FirstLineSays (text : List ℕ) (n t count expander here : ℕ) : Type 0 where
   pub n_read : n ≡ length_read text
@@ -52,8 +42,3 @@ pub record FirstLineSays (text : List ℕ) (n t count expander here : ℕ) : Typ
   pub count_is_read : count ≡ count_read text
   pub expander_read : expander ≡ expander_number (expander_of text)
   pub rest : Rest text here (after_first_line text)
-
--- a first line
-pub record FirstLineRead (text : List ℕ) (laid_out : Bool) (n t count expander here : ℕ) : Type 0 where
-  pub laid : laid_out ≡ is_first_line text
-  pub says : laid_out ≡ true → FirstLineSays text n t count expander here

@@ -95,12 +95,7 @@ pub fn two_blocks(e: Expander, seed: [u8; 16], i: u64, j: u64) -> ([u8; 16], [u8
     ensures { (result.0 ≡ block_of e seed i) × (result.1 ≡ block_of e seed j) }
 {
     match e {
-        Expander::Aes => {
-            let pair = aes::encrypt_two(seed, counter(i), counter(j));
-            let first = pair.first;
-            let second = pair.second;
-            (first, second)
-        }
+        Expander::Aes => aes::encrypt_two(seed, counter(i), counter(j)),
         Expander::Classroom => (classroom(seed, i), classroom(seed, j)),
     }
 }

@@ -21,7 +21,7 @@ fn digit(x: u64) -> u8
     requires { x < 10 }
     ensures { result ≡ 48 + x }
 {
-    48 + x as u8
+    b'0' + x as u8
 }
 
 // How many digits a number has in decimal.

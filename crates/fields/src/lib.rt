@@ -8,7 +8,7 @@ ghost use Rattle.fields.specs.Field.{packed_line, place_behind};
 
 use crate::decimal::{put, write_decimal};
 use crate::strings::write_bits;
-use places::{copy, wide, within};
+use places::{copy, within};
 
 mod decimal;
 mod strings;
@@ -17,11 +17,14 @@ pub use decimal::decimal_length;
 pub use strings::has_room;
 
 // The character of a hexadecimal digit.
-fn hex_digit(x: u64) -> u8
+fn hex_digit(x: u8) -> u8
     requires { x < 16 }
     ensures { result ≡ glyph x }
 {
-    if x < 10 { 48 + x as u8 } else { 87 + x as u8 }
+    match x {
+        0..=9 => b'0' + x,
+        _ => b'a' + (x - 10),
+    }
 }
 
 // Writes bytes in hexadecimal, two characters each.
@@ -31,15 +34,14 @@ fn put_hex(bytes: &[u8], out: &mut [u8], at: usize) -> usize
     ensures out_after { out.new ≡ put_at out.old at (hexadecimal bytes.now) }
 {
     let mut here = at;
-    let mut i = 0;
-    while i < bytes.len() {
-        let x = wide(bytes[i]);
-        here = put(out, here, hex_digit(x / 16));
-        here = put(out, here, hex_digit(x % 16));
-        i += 1;
+    for byte in bytes {
+        here = put(out, here, hex_digit(*byte / 16));
+        here = put(out, here, hex_digit(*byte % 16));
     }
     here
 }
+
+// The four writers share a test and a last line: one function that takes the writing as a closure over `out` would be longer than what they share.
 
 // Writes a word and the character behind it at a place, where they have room, and gives back the place behind them.
 pub fn write_word(word: &[u8], then: u8, out: &mut [u8], at: usize) -> usize

@@ -12,7 +12,7 @@ use bits::bit_at;
 fn bit_digit(bit: bool) -> u8
     ensures { result ≡ glyph (digit bit) }
 {
-    if bit { 49 } else { 48 }
+    if bit { b'1' } else { b'0' }
 }
 
 // Writes the k bits that are packed in `packed`, a character each.
@@ -22,10 +22,8 @@ pub(crate) fn write_bits(packed: &[u8], k: usize, out: &mut [u8], at: usize) -> 
     ensures out_after { out.new ≡ put_at out.old at (binary (unpack k packed.now)) }
 {
     let mut here = at;
-    let mut i = 0;
-    while i < k {
+    for i in 0..k {
         here = put(out, here, bit_digit(bit_at(packed, i)));
-        i += 1;
     }
     here
 }

@@ -19,6 +19,7 @@ fn reply(text: &[u8], out: &mut [u8]) -> usize
     reply.length as usize
 }
 
+// What it answers to a text.
 struct Key;
 
 impl Program for Key {

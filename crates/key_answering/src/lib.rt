@@ -65,17 +65,14 @@ fn print(text: &[u8], place: usize, n: u16, number: u64, e: Expander, out: &mut 
 pub fn respond(text: &[u8], out: &mut [u8]) -> Reply
     ensures { left result out.new ≡ exit (respond_outcome text.now (length out.old)) out.old }
 {
-    let read = read_key_line(text);
-    let n = read.n;
-    let number = read.expander;
-    if !read.is_key_line {
+    let Some(line) = read_key_line(text) else {
         return refused_line(10, out);
-    }
-    if n < 1 {
+    };
+    if line.n < 1 {
         return refused_line(1, out);
     }
-    match expander::choose(number) {
-        Choice::Known(e) => print(text, read.place, n, number, e, out),
+    match expander::choose(line.expander) {
+        Choice::Known(e) => print(text, line.place, line.n, line.expander, e, out),
         Choice::Unknown => refused_line(3, out),
     }
 }

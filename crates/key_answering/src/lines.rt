@@ -13,16 +13,16 @@ use numbers::write_le8;
 use walk::read_correction;
 
 // What stands between two fields of a line.
-const SPACE: u8 = 32;
+const SPACE: u8 = b' ';
 
 // What ends a line.
-const NEWLINE: u8 = 10;
+const NEWLINE: u8 = b'\n';
 
 // The word `control`.
-const CONTROL: [u8; 7] = [99, 111, 110, 116, 114, 111, 108];
+const CONTROL: [u8; 7] = *b"control";
 
 // The word `level`.
-const LEVEL: [u8; 5] = [108, 101, 118, 101, 108];
+const LEVEL: [u8; 5] = *b"level";
 
 // Writes the line of the control bytes.
 pub(crate) fn write_control(bytes: &[u8], out: &mut [u8], at: usize) -> usize

@@ -14,10 +14,10 @@ use nodes::level_start;
 use walk::shares_at;
 
 // The word `prefix`.
-const PREFIX: [u8; 6] = [112, 114, 101, 102, 105, 120];
+const PREFIX: [u8; 6] = *b"prefix";
 
 // The word `beside`.
-const BESIDE: [u8; 6] = [98, 101, 115, 105, 100, 101];
+const BESIDE: [u8; 6] = *b"beside";
 
 // Writes the lines of all n levels of a public share.
 fn write_levels(share: &[u8], n: u16, out: &mut [u8], at: usize) -> usize

@@ -48,9 +48,7 @@ fn sp800_38a<W: Write>(printed: &mut W) -> io::Result<()> {
         (0xf69f2445df4f9b17, 0xad2b417be66c3710, 0xf8f9fafbfcfdff02),
     ] {
         let plain = block(high, low);
-        let both = aes::encrypt_two(key, plain, block(0xf0f1f2f3f4f5f6f7, count));
-        let ecb = both.first;
-        let mask = both.second;
+        let (ecb, mask) = aes::encrypt_two(key, plain, block(0xf0f1f2f3f4f5f6f7, count));
         show(printed, "SP 800-38A F.1.1 ECB", ecb)?;
         show(printed, "SP 800-38A F.5.1 CTR", expander::xor(plain, mask))?;
     }

@@ -26,6 +26,7 @@ fn as_share(b: bool, v: u64) -> u64
 }
 
 // Server b's node and share one bit x further down than the node m, by the correction word of level k, of n, in a public share.
+// It takes no ServerKey: the kept node stands where that has the seed.
 pub fn step_down(
     e: Expander,
     n: u16,

@@ -35,8 +35,8 @@ fn same_bits(first: &[u8], second: &[u8], k: u16) -> bool
 impl ServerKey<'_> {
     // The node at the first k bits of a packed prefix.
     // It stays a recursion: document 01 names that form for this place.
-    fn node_at(self, prefix: &[u8], k: u16) -> Node
-        ensures { node_of result ≡ node (scheme self.entry.expander) (read_correction self.entry.n self.entry.public_share.now) self.entry.seed self.entry.server (bit_of (bits_of prefix.now)) k }
+    fn node_at(&self, prefix: &[u8], k: u16) -> Node
+        ensures { node_of result ≡ node (scheme self.now.expander) (read_correction self.now.n self.now.public_share.now) self.now.seed self.now.server (bit_of (bits_of prefix.now)) k }
     {
         if k == 0 {
             return Node {
@@ -56,9 +56,9 @@ impl ServerKey<'_> {
     }
 
     // The node at the first k bits of a second packed prefix: the first prefix's node m, where these bits agree.
-    fn second_node(self, first: &[u8], second: &[u8], k: u16, m: Node) -> Node
-        requires { node_of m ≡ node (scheme self.expander) (read_correction self.n self.public_share.now) self.seed self.server (bit_of (bits_of first.now)) k }
-        ensures { node_of result ≡ node (scheme self.entry.expander) (read_correction self.entry.n self.entry.public_share.now) self.entry.seed self.entry.server (bit_of (bits_of second.now)) k }
+    fn second_node(&self, first: &[u8], second: &[u8], k: u16, m: Node) -> Node
+        requires { node_of m ≡ node (scheme self.now.expander) (read_correction self.now.n self.now.public_share.now) self.now.seed self.now.server (bit_of (bits_of first.now)) k }
+        ensures { node_of result ≡ node (scheme self.now.expander) (read_correction self.now.n self.now.public_share.now) self.now.seed self.now.server (bit_of (bits_of second.now)) k }
     {
         if same_bits(first, second, k) {
             return m;

@@ -6,6 +6,7 @@ ghost use Rattle.nodes.specs.NodeLayout.{correction_of};
 use nodes::{Correction, level_start};
 
 // A lent public share, its number of levels, and the level that is read next.
+// It stays a struct that is handed on: document 01 names that form for this place.
 #[derive(Clone, Copy)]
 pub(crate) struct ShareReader<'a> {
     share: &'a [u8],

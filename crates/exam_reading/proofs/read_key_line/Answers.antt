@@ -1,70 +1,50 @@
 -- `exam_reading::read_key_line` meets its contract. Each test that fails is one of the definition's, after those that pass.
-use native.Mathlib.Omega.{arith}
 use mathlib.Core.Path.{◌≡◌, sym, ◌∙◌}
-use mathlib.Core.Bool.{Bool, true, false, false≢true}
-use borrow.Author.Tests.{not-true, not-false}
+use mathlib.Core.Bool.{false}
+use borrow.Author.Rules.{rules}
+use Rattle.std.specs.Prelude.{is_some}
+use Rattle.exam_text.proofs.Field.{rest_is}
 use Rattle.exam_text.proofs.KeyTests.{no_n, no_expander, n_too_wide, line_decides, key_says}
 use Rattle.exam_reading.proofs.read_key_line.Goals as goal
 
--- of what is no key nothing is said
-unsaid : {b : Bool} {A : Type 0} → b ≡ false → b ≡ true → A
-unsaid n q = absurd (false≢true (sym n ∙ q))
+pub returns-in_err-n-clause-key : goal.returns-in_err-n-clause-key
+returns-in_err-n-clause-key c =
+    let none : is_some c.from_residual.result ≡ false = search rules in
+    none ∙ sym (no_n c.args.text.now (sym c.in_err-n.ensures.laid))
 
-pub returns-then-not-n : goal.returns-then-not-n
-returns-then-not-n c =
+pub returns-in_err-expander-clause-key : goal.returns-in_err-expander-clause-key
+returns-in_err-expander-clause-key c =
+    let none : is_some c.from_residual-in_err-expander.result ≡ false = search rules in
+    none ∙ sym (no_expander c.args.text.now (sym c.in_ok-n.ensures.laid) _ _ c.in_ok-n.ensures.says (sym c.in_err-expander.ensures.laid))
+
+pub returns-then-n-gt32-clause-key : goal.returns-then-n-gt32-clause-key
+returns-then-n-gt32-clause-key c =
+    let n = c.in_ok-n in
+    let e = c.in_ok-expander in
+    sym (n_too_wide c.args.text.now (sym n.ensures.laid) _ _ n.ensures.says (sym e.ensures.laid) _ _ e.ensures.says c.if-n-gt32.true)
+
+pub returns-then-not-are_lines-clause-key : goal.returns-then-not-are_lines-clause-key
+returns-then-not-are_lines-clause-key c =
     let t = c.args.text.now in
-    record {
-      key = c.no_key_line.ensures.is_key_line_value ∙ sym (no_n t _ _ _ c.read_field-n.ensures (not-true _ c.if-not-n.true));
-      says = unsaid c.no_key_line.ensures.is_key_line_value;
-      none = λ q. c.no_key_line.ensures.n_value;
-    }
+    let n = c.in_ok-n in
+    let e = c.in_ok-expander in
+    sym (line_decides t (sym n.ensures.laid) _ _ n.ensures.says (sym e.ensures.laid) _ _ e.ensures.says c.if-n-gt32.false
+    ∙ sym (rw (rest_is t e.expander.behind) at c.are_lines.ensures)
+    ∙ c.if-not-are_lines.true)
 
-pub read_field-expander-requires : goal.read_field-expander-requires
-read_field-expander-requires c = ((c.read_field-n.ensures.says (not-false _ c.if-not-n.false)).rest.within, omega arith)
-
-pub returns-then-not-expander : goal.returns-then-not-expander
-returns-then-not-expander c =
+pub returns-clause-key : goal.returns-clause-key
+returns-clause-key c =
     let t = c.args.text.now in
-    record {
-      key = c.no_key_line-then-not-expander.ensures.is_key_line_value
-          ∙ sym (no_expander t _ _ _ c.read_field-n.ensures (not-false _ c.if-not-n.false)
-          _ _ _ c.read_field-expander.ensures (not-true _ c.if-not-expander.true));
-      says = unsaid c.no_key_line-then-not-expander.ensures.is_key_line_value;
-      none = λ q. c.no_key_line-then-not-expander.ensures.n_value;
-    }
+    let n = c.in_ok-n in
+    let e = c.in_ok-expander in
+    sym (line_decides t (sym n.ensures.laid) _ _ n.ensures.says (sym e.ensures.laid) _ _ e.ensures.says c.if-n-gt32.false
+    ∙ sym (rw (rest_is t e.expander.behind) at c.are_lines.ensures)
+    ∙ c.if-not-are_lines.false)
 
-pub returns-then-bits-gt32 : goal.returns-then-bits-gt32
-returns-then-bits-gt32 c =
-    record {
-      key = c.no_key_line-then-bits-gt32.ensures.is_key_line_value
-          ∙ sym (n_too_wide c.args.text.now _ _ _ c.read_field-n.ensures (not-false _ c.if-not-n.false) _ _ _ c.read_field-expander.ensures
-          (not-false _ c.if-not-expander.false) c.if-bits-gt32.true);
-      says = unsaid c.no_key_line-then-bits-gt32.ensures.is_key_line_value;
-      none = λ q. c.no_key_line-then-bits-gt32.ensures.n_value;
-    }
-
-pub are_lines-requires : goal.are_lines-requires
-are_lines-requires c = ((c.read_field-expander.ensures.says (not-false _ c.if-not-expander.false)).rest.within, omega arith, omega arith)
-
-pub returns-then-not-are_lines : goal.returns-then-not-are_lines
-returns-then-not-are_lines c =
-    record {
-      key = c.no_key_line-then-not-are_lines.ensures.is_key_line_value
-          ∙ sym (line_decides c.args.text.now _ _ _ c.read_field-n.ensures (not-false _ c.if-not-n.false) _ _ _ c.read_field-expander.ensures
-          (not-false _ c.if-not-expander.false) c.if-bits-gt32.false
-          ∙ sym c.are_lines.ensures
-          ∙ not-true _ c.if-not-are_lines.true-raw);
-      says = unsaid c.no_key_line-then-not-are_lines.ensures.is_key_line_value;
-      none = λ q. c.no_key_line-then-not-are_lines.ensures.n_value;
-    }
-
-pub returns : goal.returns
-returns c =
+pub returns-clause-says : goal.returns-clause-says
+returns-clause-says c =
     let t = c.args.text.now in
-    let b = c.if-bits-gt32.false in
-    let l = sym c.are_lines.ensures ∙ not-false _ c.if-not-are_lines.false-raw in
-    record {
-      key = sym (line_decides t _ _ _ c.read_field-n.ensures (not-false _ c.if-not-n.false) _ _ _ c.read_field-expander.ensures (not-false _ c.if-not-expander.false) b ∙ l);
-      says = λ q. key_says t _ _ _ c.read_field-n.ensures (not-false _ c.if-not-n.false) _ _ _ c.read_field-expander.ensures (not-false _ c.if-not-expander.false) b l;
-      none = λ q. absurd (false≢true (sym q));
-    }
+    let n = c.in_ok-n in
+    let e = c.in_ok-expander in
+    key_says t (sym n.ensures.laid) _ _ n.ensures.says (sym e.ensures.laid) _ _ e.ensures.says c.if-n-gt32.false
+    (sym (rw (rest_is t e.expander.behind) at c.are_lines.ensures) ∙ c.if-not-are_lines.false)

@@ -1,54 +1,54 @@
--- `exam_reading::read_line` meets its contract: where a line stands, its parts are read at their places.
+-- `exam_reading::read_line` meets its contract: where a line stands, its parts are read.
+use Prim.Native.Nat.{◌+◌, ◌-◌, ◌≤◌}
 use native.Mathlib.Omega.{arith}
-use mathlib.Core.Path.{◌≡◌, refl, sym, ap, ◌∙◌}
-use mathlib.Core.Bool.{true}
-use borrow.Author.Tests.{not-true, not-false}
+use mathlib.Core.Path.{◌≡◌, refl, sym, ◌∙◌}
+use mathlib.Core.Bool.{true, false}
+use lib.ListN.{length, drop, length-drop}
+use lib.Seq.{length-take-le}
 use Rattle.bits.specs.Packing.{value, pack_in}
-use Rattle.exam_text.specs.Reader.{has_line}
-use Rattle.exam_text.proofs.Placed.{none_stands, stands_within, string_stands, seed0_stands, seed1_stands, seeds_hex}
+use Rattle.exam_text.specs.Reader.{has_line, line_length}
+use Rattle.exam_text.proofs.Placed.{none_stands, stands_short, stands_laid, stands_within, stands_is}
 use Rattle.exam_reading.proofs.read_line.Goals as goal
 use Rattle.exam_reading.proofs.read_line.Goals.{Else-not-has_line}
 
-stands : (e : Else-not-has_line) → let a = e.args in has_line a.n a.at a.text.now ≡ true
-stands e = sym e.has_line.ensures ∙ not-false _ e.if-not-has_line.false-raw
+stands : (e : Else-not-has_line) → has_line e.args.n e.args.at e.args.text.now ≡ true
+stands e = rw (← e.from-bits.ensures) (sym e.has_line.ensures ∙ e.if-not-has_line.false)
+
+short : (e : Else-not-has_line) → e.from-bits.result ≤ 32
+short e = omega (arith, e.from-bits.ensures, stands_short e.args.n e.args.at e.args.text.now (stands e))
+
+within : (e : Else-not-has_line) → e.args.at + line_length e.from-bits.result ≤ length e.args.text.now
+within e = omega (arith, e.from-bits.ensures, stands_within e.args.n e.args.at e.args.text.now (stands e))
 
 pub returns-then-not-has_line : goal.returns-then-not-has_line
 unfolding pack_in value
 returns-then-not-has_line c =
     let a = c.args in
-    rw (none_stands a.n a.at a.text.now (sym c.has_line.ensures ∙ not-true _ c.if-not-has_line.true-raw)) (record { string = refl; seeds = (refl, refl) })
+    let none : has_line a.n a.at a.text.now ≡ false = rw (← c.from-bits.ensures) (sym c.has_line.ensures ∙ c.if-not-has_line.true) in
+    rw (none_stands a.n a.at a.text.now none) (record { string = refl; seeds = (refl, refl) })
 
-pub read_string-string-requires : goal.read_string-string-requires
-read_string-string-requires c = let a = c.args in omega (arith, stands_within a.n a.at a.text.now (stands c))
+pub line_length-requires : goal.line_length-requires
+line_length-requires c = short c
 
 pub overflow_add-at : goal.overflow_add-at
-overflow_add-at c = let a = c.args in omega (arith, stands_within a.n a.at a.text.now (stands (goal.at.overflow_add-at c).Else-not-has_line))
+overflow_add-at c = omega (arith, within (goal.at.overflow_add-at c).Else-not-has_line)
 
-pub overflow_add-at-2 : goal.overflow_add-at-2
-overflow_add-at-2 c = let a = c.args in omega (arith, stands_within a.n a.at a.text.now (stands (goal.at.overflow_add-at-2 c).Else-not-has_line))
+pub slice_bounds-read_parts-end : goal.slice_bounds-read_parts-end
+slice_bounds-read_parts-end c = omega (arith, within (goal.at.slice_bounds-read_parts-end c).Else-not-has_line)
 
-pub read_seed-seed0-requires : goal.read_seed-seed0-requires
-read_seed-seed0-requires c =
+pub read_parts-requires : goal.read_parts-requires
+read_parts-requires c =
     let a = c.args in
-    (omega (arith, stands_within a.n a.at a.text.now (stands (goal.at.read_seed-seed0-requires c).Else-not-has_line)), (seeds_hex a.n a.at a.text.now (stands (goal.at.read_seed-seed0-requires c).Else-not-has_line)).0)
-
-pub overflow_add-at-3 : goal.overflow_add-at-3
-overflow_add-at-3 c = let a = c.args in omega (arith, stands_within a.n a.at a.text.now (stands (goal.at.overflow_add-at-3 c).Else-not-has_line))
-
-pub overflow_add-at-4 : goal.overflow_add-at-4
-overflow_add-at-4 c = let a = c.args in omega (arith, stands_within a.n a.at a.text.now (stands (goal.at.overflow_add-at-4 c).Else-not-has_line))
-
-pub read_seed-seed1-requires : goal.read_seed-seed1-requires
-read_seed-seed1-requires c =
-    let a = c.args in
-    (omega (arith, stands_within a.n a.at a.text.now (stands (goal.at.read_seed-seed1-requires c).Else-not-has_line)), (seeds_hex a.n a.at a.text.now (stands (goal.at.read_seed-seed1-requires c).Else-not-has_line)).1)
+    let s = stands (goal.at.read_parts-requires c).Else-not-has_line in
+    let e : a.at + c.line_length.result - a.at ≡ line_length a.n = omega (arith, c.line_length.ensures, c.from-bits.ensures) in
+    rw (c.from-bits.ensures, e) (length-take-le (line_length a.n) (drop a.at a.text.now) (omega (arith, length-drop a.at a.text.now, stands_within a.n a.at a.text.now s)), stands_laid a.n a.at a.text.now s)
 
 pub returns : goal.returns
 returns c =
-    let a = c.args in record {
-      string = c.read_string-string.ensures ∙ ap (pack_in 4) (string_stands a.n a.at a.text.now (stands (goal.at.returns c).Else-not-has_line));
-      seeds = (
-        c.read_seed-seed0.ensures ∙ seed0_stands a.n a.at a.text.now (stands (goal.at.returns c).Else-not-has_line),
-        c.read_seed-seed1.ensures ∙ seed1_stands a.n a.at a.text.now (stands (goal.at.returns c).Else-not-has_line),
-      );
-    }
+    let a = c.args in
+    let s = stands (goal.at.returns c).Else-not-has_line in
+    let e : a.at + c.line_length.result - a.at ≡ line_length a.n = omega (arith, c.line_length.ensures, c.from-bits.ensures) in
+    rw (stands_is a.n a.at a.text.now s) (record {
+      string = rw (c.from-bits.ensures, e) at c.read_parts.ensures.string;
+      seeds = rw (c.from-bits.ensures, e) at c.read_parts.ensures.seeds;
+    })

@@ -9,6 +9,6 @@ unfolding aes_block
 returns-in-Aes c =
     let seed = c.args.seed in
     rw c.in-Aes.is (
-      c.encrypt_two-pair.ensures.0 ∙ ap (cipher seed) c.counter.ensures,
-      c.encrypt_two-pair.ensures.1 ∙ ap (cipher seed) c.counter-in-Aes.ensures,
+      c.encrypt_two.ensures.0 ∙ ap (cipher seed) c.counter.ensures,
+      c.encrypt_two.ensures.1 ∙ ap (cipher seed) c.counter-in-Aes.ensures,
     )

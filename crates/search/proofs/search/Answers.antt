@@ -5,7 +5,7 @@ use mathlib.Core.Path.{sym}
 use Rattle.search.specs.Search.{Lent, lent}
 use Rattle.search.proofs.Closing.{refused, within_bounds, settled}
 use Rattle.search.proofs.search.Goals as goal
-use Rattle.search.proofs.search.Goals.{After-check, In_ok-e}
+use Rattle.search.proofs.search.Goals.{After-check}
 
 -- what is lent
 abbrev lend : After-check → Lent

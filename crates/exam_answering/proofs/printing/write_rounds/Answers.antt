@@ -1,112 +1,83 @@
 -- `exam_answering::printing::write_rounds` meets its contract. The loop's invariant: the lines of the rounds passed are written, and what is left are rounds.
--- The measure is how many rounds there may be yet.
-use Prim.Native.Nat.{ℕ, ◌+◌, ◌-◌, ◌≤◌}
+use Prim.Native.Nat.{ℕ, ◌+◌, ◌-◌, ◌≤◌, ◌<◌}
 use native.Mathlib.Omega.{arith}
-use mathlib.Core.Path.{◌≡◌, refl, ap, ◌∙◌}
+use mathlib.Core.Path.{◌≡◌, refl}
 use mathlib.Core.List.{List, ◌++◌}
-use lib.ListN.{length, drop, length-drop}
+use borrow.Author.Rules.{rules}
+use lib.ListN.{length, drop}
 use Rattle.places.proofs.Places.{Grown, grown_start, grown_room, grown_more}
-use Rattle.query.proofs.Pieces.{grown_length}
 use Rattle.exam_text.proofs.Records.{Rounds}
 use Rattle.exam_answering.specs.Printing.{round_length, rounds_lines}
 use Rattle.fields.proofs.FieldChain.{all_written}
 use Rattle.exam_answering.proofs.PrintedLines.{round_lines, rest_of, record_none, record_end_lem, record_step, rounds_step}
 use Rattle.exam_answering.proofs.printing.write_rounds.Goals as goal
-use Rattle.exam_answering.proofs.printing.write_rounds.Goals.{After-round_length-from, Else-rounds-from}
+use Rattle.exam_answering.proofs.printing.write_rounds.Goals.{Else-is_empty}
 
--- the rounds that are left
-abbrev rounds : Else-rounds-from → List ℕ
-rounds i = drop i.loop-left.from i.args.rounds.now
-
-abbrev whole : Else-rounds-from → List ℕ
-whole i = rounds_lines i.args.n i.args.rounds.now
+some : (c : Else-is_empty) → 0 < length c.loop.rest.now
+some c = search rules
 
 -- the lines of the rounds after the first of them, which is of this size
-abbrev others : Else-rounds-from → ℕ → List ℕ
-others i size = let l = i.loop-left in rounds_lines (l.left - 1) (drop (l.from + size) i.args.rounds.now)
+abbrev others : Else-is_empty → ℕ → List ℕ
+others c size = rounds_lines (c.args.n - c.loop.counter - 1) (drop size c.loop.rest.now)
 
-turn : (i : Else-rounds-from) (size : ℕ) → size ≡ round_length (rounds i)
-    → Grown i.args.out.now i.args.at i.loop-left.out i.loop-left.here (round_lines (rounds i) ++ others i size) (whole i)
-turn i size e =
-    let l = i.loop-left in
-    rw (← record_step l.left l.from size i.args.rounds.now e i.loop-left-test.true i.if-rounds-from.false) l.invariant.2
+abbrev whole : Else-is_empty → List ℕ
+whole c = rounds_lines c.args.n c.args.rounds.now
 
-next : (i : Else-rounds-from) (size : ℕ) → size ≡ round_length (rounds i)
-    → (round_length (rounds i) ≤ length (rounds i)) × Rounds round_length (i.loop-left.left - 1) (drop (i.loop-left.from + size) i.args.rounds.now)
-next i size e =
-    let l = i.loop-left in
-    rounds_step l.left l.from size i.args.rounds.now e i.loop-left-test.true i.if-rounds-from.false l.invariant.1
+turn : (c : Else-is_empty) (size : ℕ) → size ≡ round_length c.loop.rest.now
+    → Grown c.args.out.now c.args.at c.loop.out c.loop.here (round_lines c.loop.rest.now ++ others c size) (whole c)
+turn c size e = rw (← record_step (c.args.n - c.loop.counter) size c.loop.rest.now e (omega arith) (some c)) c.loop.invariant.1
 
-first_within : (i : Else-rounds-from) → round_length (rounds i) ≤ length (rounds i)
-first_within i = (next i (round_length (rounds i)) refl).0
-
-length_now : (c : After-round_length-from) → c.round_length-from.result ≡ round_length (drop c.loop-left.from c.args.rounds.now)
-length_now c = c.round_length-from.ensures ∙ ap round_length (rest_of c.loop-left.from c.args.rounds.now)
-
-inside : (i : Else-rounds-from) (size : ℕ) → size ≡ round_length (rounds i) → i.loop-left.from + size ≤ length i.args.rounds.now
-inside i size e =
-    omega (arith, e, first_within i, length-drop i.loop-left.from i.args.rounds.now, i.if-rounds-from.false)
+next : (c : Else-is_empty) (size : ℕ) → size ≡ round_length c.loop.rest.now
+    → (round_length c.loop.rest.now ≤ length c.loop.rest.now) × Rounds round_length (c.args.n - c.loop.counter - 1) (drop size c.loop.rest.now)
+next c size e = rounds_step (c.args.n - c.loop.counter) size c.loop.rest.now e (omega arith) (some c) c.loop.invariant.0
 
 -- ---- the needs
-pub loop-left-init : goal.loop-left-init
-loop-left-init c = (omega arith, c.requires.0, grown_start c.args.out.now c.args.at _)
-
-pub shape_of-out-then-rounds-from : goal.shape_of-out-then-rounds-from
-shape_of-out-then-rounds-from c =
-    let l = c.loop-left in
+pub loop-init : goal.loop-init
+loop-init c =
     let a = c.args in
-    grown_length a.out.now a.at l.out l.here _ _ l.invariant.2
+    let e : a.n - 0 ≡ a.n = omega arith in
+    rw e (c.requires.0, grown_start a.out.now a.at _)
 
-pub returns-then-rounds-from : goal.returns-then-rounds-from
-returns-then-rounds-from c =
-    let l = c.loop-left in
+pub returns-then-is_empty : goal.returns-then-is_empty
+returns-then-is_empty c =
+    let l = c.loop in
     let a = c.args in
-    let e : length (drop l.from a.rounds.now) ≡ 0 = omega (arith, length-drop l.from a.rounds.now, c.if-rounds-from.true) in
-    let both = all_written a.out.now a.at l.out l.here _ (rw (record_end_lem l.left (drop l.from a.rounds.now) e) at l.invariant.2) in record { value = both.0; out_after = both.1 }
+    let e : length l.rest.now ≡ 0 = search rules in
+    let both = all_written a.out.now a.at l.out l.here _ (rw (record_end_lem (a.n - l.counter) l.rest.now e) at l.invariant.1) in
+    record { value = both.0; out_after = both.1 }
 
 pub write_round-here-requires : goal.write_round-here-requires
 write_round-here-requires c =
-    let a = c.args in
-    let l = c.loop-left in
-    let i = (goal.at.write_round-here-requires c).Else-rounds-from in
-    let size = round_length (rounds i) in
-    let same = rest_of l.from a.rounds.now in
+    let i = (goal.at.write_round-here-requires c).Else-is_empty in
+    let l = c.loop in
+    let size = round_length l.rest.now in
     record {
-      rounds_in_bounds = rw same (first_within i);
-      rounds_in_bounds_2 =
-          rw same (grown_room a.out.now a.at l.out l.here (round_lines (rounds i)) (others i size) (whole i) (turn i size refl) c.requires.1);
+      rounds_in_bounds = (next i size refl).0;
+      rounds_in_bounds_2 = grown_room c.args.out.now c.args.at l.out l.here (round_lines l.rest.now) (others i size) (whole i) (turn i size refl) c.requires.1;
     }
 
-pub round_length-from-requires : goal.round_length-from-requires
-round_length-from-requires c = rw (rest_of c.loop-left.from c.args.rounds.now) (first_within (goal.at.round_length-from-requires c).Else-rounds-from)
+pub slice_bounds-rest-count : goal.slice_bounds-rest-count
+slice_bounds-rest-count c = omega (arith, c.round_length.ensures, (next (goal.at.slice_bounds-rest-count c).Else-is_empty _ refl).0)
 
-pub overflow_add-from : goal.overflow_add-from
-overflow_add-from c =
-    let g = goal.at.overflow_add-from c in
-    omega (arith, inside g.Else-rounds-from c.round_length-from.result (length_now g.After-round_length-from))
+pub slice_bounds-rest-start : goal.slice_bounds-rest-start
+slice_bounds-rest-start c = omega (arith, c.round_length.ensures, (next (goal.at.slice_bounds-rest-start c).Else-is_empty _ refl).0)
 
-pub loop-left-preserved : goal.loop-left-preserved
-loop-left-preserved c =
+pub loop-preserved : goal.loop-preserved
+loop-preserved c =
     let a = c.args in
-    let l = c.loop-left in
-    let i = (goal.at.loop-left-preserved c).Else-rounds-from in
-    let size = c.round_length-from.result in
-    let e = length_now (goal.at.loop-left-preserved c).After-round_length-from in
-    let same = rest_of l.from a.rounds.now in (
-      inside i size e,
-      (next i size e).1,
-      grown_more a.out.now a.at l.out l.here (round_lines (rounds i)) (others i size) (whole i) (turn i size e) c.requires.1 _ _
-          (rw same at c.write_round-here.ensures.out_after) (rw same at c.write_round-here.ensures.value),
+    let l = c.loop in
+    let i = (goal.at.loop-preserved c).Else-is_empty in
+    let size = c.round_length.result in
+    let w = c.write_round-here.ensures in
+    let e : a.n - (l.counter + 1) ≡ a.n - l.counter - 1 = omega arith in
+    rw (e, rest_of size l.rest.now) (
+      (next i size c.round_length.ensures).1,
+      grown_more a.out.now a.at l.out l.here (round_lines l.rest.now) (others i size) (whole i) (turn i size c.round_length.ensures) c.requires.1 _ _ w.out_after w.value,
     )
-
-pub shape_of-out : goal.shape_of-out
-shape_of-out c =
-    let l = c.loop-left in
-    let a = c.args in
-    grown_length a.out.now a.at l.out l.here _ _ l.invariant.2
 
 pub returns : goal.returns
 returns c =
-    let l = c.loop-left in
+    let l = c.loop in
     let a = c.args in
-    let both = all_written a.out.now a.at l.out l.here _ (rw (record_none l.left (drop l.from a.rounds.now) c.loop-left-test.false) at l.invariant.2) in record { value = both.0; out_after = both.1 }
+    let both = all_written a.out.now a.at l.out l.here _ (rw (record_none (a.n - l.counter) l.rest.now (omega arith)) at l.invariant.1) in
+    record { value = both.0; out_after = both.1 }

@@ -61,8 +61,8 @@ fits s =
     (answer_most (sheet s) (within s) (least s))
 
 -- ---- what is lent to it
-room : (s : Start) (w : ℕ) → w ≡ public_share_length s.args.n → w * s.args.count ≤ 24832
-room s w size = shares_room s.args.n s.args.count w size s.requires.text_value.2 s.requires.text_value.6
+room : (s : Start) (w : ℕ) → w ≡ public_share_length s.args.sheet.n → w * s.args.sheet.count ≤ 24832
+room s w size = shares_room s.args.sheet.n s.args.sheet.count w size s.requires.text_value.2 s.requires.text_value.6
 
 -- the reports that were made, in the space for the first seeds, the second seeds and the public shares
 module _ (s : Start) (r : Bool) (first second third : List ℕ)
@@ -72,38 +72,38 @@ module _ (s : Start) (r : Bool) (first second third : List ℕ)
   stand =
       let a = s.args in
       let q = s.requires in
-      reports_stand a.text.now a.seeds0.now a.seeds1.now a.shares.now q.text_value.0 (from s) (known s) a.n a.count q.n_value.0 q.n_value.3
+      reports_stand a.text.now a.seeds0.now a.seeds1.now a.shares.now q.text_value.0 (from s) (known s) a.sheet.n a.sheet.count q.n_value.0 q.n_value.3
       (omega (arith, q.text_value.6, q.seeds0_len.0)) (omega (arith, q.text_value.6, q.seeds0_len.1)) (omega (arith, room s _ refl, q.seeds0_len.2)) _ _ _ _ made
 
-  reports : let n = s.args.n in let C = s.args.count in
+  reports : let n = s.args.sheet.n in let C = s.args.sheet.count in
       (take (16 * C) first ≡ seeds0_of (sheet s)) × (take (16 * C) second ≡ seeds1_of (sheet s)) × (take (public_share_length n * C) third ≡ public_shares_of (sheet s))
   reports =
       let a = s.args in
       let q = s.requires in
-      reports_read a.text.now a.seeds0.now a.seeds1.now a.shares.now q.text_value.0 (from s) (known s) a.n a.count q.n_value.0 q.n_value.3
+      reports_read a.text.now a.seeds0.now a.seeds1.now a.shares.now q.text_value.0 (from s) (known s) a.sheet.n a.sheet.count q.n_value.0 q.n_value.3
       (omega (arith, q.text_value.6, q.seeds0_len.0)) (omega (arith, q.text_value.6, q.seeds0_len.1)) (omega (arith, room s _ refl, q.seeds0_len.2)) _ _ _ _ made
 
-  module _ (w : ℕ) (size : w ≡ public_share_length s.args.n) where
+  module _ (w : ℕ) (size : w ≡ public_share_length s.args.sheet.n) where
     -- the search that is asked for is the sheet's
     abbrev lent_to : Lent
     lent_to =
         let a = s.args in
-        let m = w * a.count in
-        lent a.n false a.t a.expander (take (16 * a.count) first) (take m third) (take (16 * a.count) second) (take m third) a.area.now a.list.now
+        let m = w * a.sheet.count in
+        lent a.sheet.n false a.sheet.t a.sheet.expander (take (16 * a.sheet.count) first) (take m third) (take (16 * a.sheet.count) second) (take m third) a.area.now a.list.now
 
     same_search : lent_to ≡ asked s
     same_search =
         let q = s.requires in
-        same_lent (sheet s) _ _ _ _ _ _ _ _ q.n_value.0 q.n_value.1 q.n_value.2 reports.0 reports.1 (ap (λ (m : ℕ). take (m * s.args.count) third) size ∙ reports.2)
+        same_lent (sheet s) _ _ _ _ _ _ _ _ q.n_value.0 q.n_value.1 q.n_value.2 reports.0 reports.1 (ap (λ (m : ℕ). take (m * s.args.sheet.count) third) size ∙ reports.2)
 
-    same_text : let a = s.args in printed a.n (record_read lent_to) (list_read lent_to) ≡ searched_text (sheet s) a.area.now a.list.now
+    same_text : let a = s.args in printed a.sheet.n (record_read lent_to) (list_read lent_to) ≡ searched_text (sheet s) a.area.now a.list.now
     same_text = ap₂ (λ (n : ℕ) (q : Lent). printed n (record_read q) (list_read q)) s.requires.n_value.0 same_search
 
     -- what is printed of it
-    text_size : (n : ℕ) → let a = s.args in n ≡ length (printed a.n (record_read lent_to) (list_read lent_to)) → n ≡ length (searched_text (sheet s) a.area.now a.list.now)
+    text_size : (n : ℕ) → let a = s.args in n ≡ length (printed a.sheet.n (record_read lent_to) (list_read lent_to)) → n ≡ length (searched_text (sheet s) a.area.now a.list.now)
     text_size n e = e ∙ ap length same_text
 
-    text_stands : (new : List ℕ) → let a = s.args in new ≡ overlay (printed a.n (record_read lent_to) (list_read lent_to)) a.out.now
+    text_stands : (new : List ℕ) → let a = s.args in new ≡ overlay (printed a.sheet.n (record_read lent_to) (list_read lent_to)) a.out.now
         → new ≡ overlay (searched_text (sheet s) a.area.now a.list.now) a.out.now
     text_stands new e = e ∙ ap (λ (bytes : List ℕ). overlay bytes s.args.out.now) same_text
 
@@ -134,7 +134,7 @@ search_printed-requires c =
     record {
       le_n = (q.text_value.1, q.text_value.2, subst Accepted same (accepted s));
       rounds =
-          subst (λ (q : Lent). Rounds round_length c.args.n (drop heading_length (record_read q))) same
+          subst (λ (q : Lent). Rounds round_length c.args.sheet.n (drop heading_length (record_read q))) same
           (subst (λ (n : ℕ). Rounds round_length n (drop heading_length (record_read (asked s)))) (sym q.n_value.0) (rounds s));
       list_in_bounds = subst (λ (bytes : List ℕ). length bytes ≤ length c.args.out.now) text (omega (arith, fits s, q.seeds0_len.5));
     }

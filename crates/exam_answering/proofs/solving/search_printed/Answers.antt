@@ -19,7 +19,7 @@ use Rattle.exam_answering.proofs.solving.search_printed.Goals.{After-search-foun
 abbrev asked : After-search-found → Lent
 asked k =
     let a = k.args in
-    lent a.n false a.t a.expander a.seeds0.now a.shares.now a.seeds1.now a.shares.now a.area.now a.list.now
+    lent a.sheet.n false a.sheet.t a.sheet.expander a.seeds0.now a.shares.now a.seeds1.now a.shares.now a.area.now a.list.now
 
 abbrev recorded : After-search-found → List ℕ
 recorded k = k.search-found.new.record
@@ -71,4 +71,4 @@ print-requires c = (
 
 pub returns : goal.returns
 returns c =
-    let a = c.args in record { value = c.print.ensures.value ∙ ap₂ (λ (r l : List ℕ). length (printed a.n r l)) (record_is (goal.at.returns c).After-search-found) (list_is (goal.at.returns c).After-search-found); out_after = c.print.ensures.out_after ∙ ap₂ (λ (r l : List ℕ). overlay (printed a.n r l) a.out.now) (record_is (goal.at.returns c).After-search-found) (list_is (goal.at.returns c).After-search-found) }
+    let a = c.args in record { value = c.print.ensures.value ∙ ap₂ (λ (r l : List ℕ). length (printed a.sheet.n r l)) (record_is (goal.at.returns c).After-search-found) (list_is (goal.at.returns c).After-search-found); out_after = c.print.ensures.out_after ∙ ap₂ (λ (r l : List ℕ). overlay (printed a.sheet.n r l) a.out.now) (record_is (goal.at.returns c).After-search-found) (list_is (goal.at.returns c).After-search-found) }

@@ -1,59 +1,37 @@
 -- `exam_reading::fields::read_field` meets its contract.
-use native.Mathlib.Omega.{arith}
-use Prim.Native.Nat.{◌<◌}
-use mathlib.Core.Path.{◌≡◌, sym, ◌∙◌}
-use mathlib.Core.Bool.{true}
-use borrow.Author.Tests.{not-true, not-false}
-use lib.ListN.{length, get_or, drop}
-use Rattle.exam_text.specs.Reader.{leading, is_number}
-use Rattle.exam_text.proofs.Field.{number_short, field_no_number, field_other, field_within, field_laid}
+use Prim.Native.Nat.{◌+◌, ◌-◌, ◌<◌}
+use mathlib.Core.Path.{◌≡◌, sym, ap, ◌∙◌}
+use borrow.Author.Rules.{rules}
+use lib.ListN.{length, get_or, take, drop}
+use Rattle.exam_text.specs.Reader.{is_number}
+use Rattle.exam_text.proofs.Digits.{leading_digits}
+use Rattle.exam_text.proofs.Field.{number_short, digits_are, digits_within, no_number, number_ends, field_says}
 use Rattle.exam_reading.proofs.fields.read_field.Goals as goal
-use Rattle.exam_reading.proofs.fields.read_field.Goals.{Else-byte_at-then, Else-not-is_number}
 
--- the digits are a number
-numbered : (c : Else-not-is_number) → is_number (leading (drop c.args.at c.args.text.now)) ≡ true
-numbered c = sym c.is_number.ensures ∙ not-false _ c.if-not-is_number.false-raw
+pub slice_bounds-digits-end : goal.slice_bounds-digits-end
+slice_bounds-digits-end c = let a = c.args in digits_within a.text.now a.at c.digits_length-size.result c.digits_length-size.ensures
 
--- the character stands behind them
-ended : (c : Else-byte_at-then)
-    → get_or c.args.text.now c.digits_end-end.result 0
-    ≡ c.args.then
-ended c = sym c.byte_at.ensures ∙ omega arith
-
--- the character lies within
-within : (c : Else-byte_at-then)
-    → c.digits_end-end.result < length c.args.text.now
-within c =
+pub returns-then-not-is_number-clause-laid : goal.returns-then-not-is_number-clause-laid
+returns-then-not-is_number-clause-laid c =
     let a = c.args in
-    let d = c.digits_end-end in
-    let number : is_number (leading (drop a.at a.text.now)) ≡ true = sym c.is_number.ensures ∙ not-false _ c.if-not-is_number.false-raw in
-    let end : get_or a.text.now d.result 0 ≡ a.then = sym c.byte_at.ensures ∙ omega arith in
-    field_within a.text.now a.at a.then d.result d.ensures.0 number end (omega arith)
+    sym (no_number a.text.now a.at c.digits_length-size.result c.digits_length-size.ensures a.then (sym c.if-not-is_number.ensures))
 
-pub returns-then-not-is_number : goal.returns-then-not-is_number
-returns-then-not-is_number c =
+pub number_of-requires : goal.number_of-requires
+number_of-requires c =
     let a = c.args in
-    field_no_number a.text.now a.at a.then c.digits_end-end.result c.digits_end-end.ensures.0
-    (sym c.is_number.ensures ∙ not-true _ c.if-not-is_number.true-raw)
+    let d = digits_are a.text.now a.at c.digits_length-size.result c.digits_length-size.ensures in
+    rw d (number_short _ (sym (ap is_number d) ∙ sym c.if-not-is_number.ensures), leading_digits (drop a.at a.text.now))
 
-pub returns-then-byte_at-then : goal.returns-then-byte_at-then
-returns-then-byte_at-then c =
+pub returns-in-Some-clause-laid : goal.returns-in-Some-clause-laid
+returns-in-Some-clause-laid c =
     let a = c.args in
-    let d = c.digits_end-end in
-    field_other a.text.now a.at a.then d.result d.ensures.0 (numbered (goal.at.returns-then-byte_at-then c).Else-not-is_number) (λ e. c.if-byte_at-then.true (c.byte_at.ensures ∙ e))
+    let size = c.digits_length-size.result in
+    let ends : get_or (take (length a.text.now - a.at) (drop a.at a.text.now)) size 0 ≡ a.then = search rules in
+    sym (number_ends a.text.now a.at size c.digits_length-size.ensures a.then (sym c.if-not-is_number.ensures) ends)
 
-pub number_in-value-requires : goal.number_in-value-requires
-number_in-value-requires c =
+pub returns-in-Some-clause-says : goal.returns-in-Some-clause-says
+returns-in-Some-clause-says c =
     let a = c.args in
-    let d = c.digits_end-end in
-    (d.ensures.0, d.ensures.1, omega (arith, number_short (leading (drop a.at a.text.now)) (numbered (goal.at.number_in-value-requires c).Else-not-is_number)))
-
-pub overflow_add-result : goal.overflow_add-result
-overflow_add-result c = omega (arith, within (goal.at.overflow_add-result c).Else-byte_at-then)
-
-pub returns : goal.returns
-returns c =
-    let a = c.args in
-    let d = c.digits_end-end in
-    field_laid a.text.now a.at a.then d.result d.ensures.0 (numbered (goal.at.returns c).Else-not-is_number) (ended (goal.at.returns c).Else-byte_at-then) (omega arith)
-    c.number_in-value.result c.number_in-value.ensures
+    let size = c.digits_length-size.result in
+    let within : a.at + size < length a.text.now = search rules in
+    field_says a.text.now a.at size c.digits_length-size.ensures c.number_of.result within c.number_of.ensures

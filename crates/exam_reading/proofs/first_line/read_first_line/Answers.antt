@@ -1,30 +1,33 @@
--- `exam_reading::first_line::read_first_line` meets its contract.
-use native.Mathlib.Omega.{arith}
-use borrow.Author.Tests.{not-true, not-false}
-use Rattle.exam_text.proofs.FirstLine.{no_line_lem, no_first, no_second, line_read}
+-- `exam_reading::first_line::read_first_line` meets its contract: each `?` stands at a test of the definition.
+use mathlib.Core.Path.{◌≡◌, sym, ◌∙◌}
+use mathlib.Core.Bool.{false}
+use borrow.Author.Rules.{rules}
+use Rattle.std.specs.Prelude.{is_some}
+use Rattle.exam_text.proofs.FirstLine.{no_first, no_second, line_laid, line_says}
 use Rattle.exam_reading.proofs.first_line.read_first_line.Goals as goal
 
-pub returns-then-not-n : goal.returns-then-not-n
-returns-then-not-n c =
-    let t = c.args.text.now in
-    no_line_lem t _ _ _ _ _ _ (no_first t _ _ _ c.read_field-n.ensures (not-true _ c.if-not-n.true)) c.no_first_line.ensures
+pub returns-in_err-n-clause-laid : goal.returns-in_err-n-clause-laid
+returns-in_err-n-clause-laid c =
+    let none : is_some c.from_residual.result ≡ false = search rules in
+    none ∙ sym (no_first c.args.text.now (sym c.in_err-n.ensures.laid))
 
-pub read_field-t-requires : goal.read_field-t-requires
-read_field-t-requires c = ((c.read_field-n.ensures.says (not-false _ c.if-not-n.false)).rest.within, omega arith)
+pub returns-in_err-t-clause-laid : goal.returns-in_err-t-clause-laid
+returns-in_err-t-clause-laid c =
+    let none : is_some c.from_residual-in_err-t.result ≡ false = search rules in
+    none ∙ sym (no_second c.args.text.now (sym c.in_ok-n.ensures.laid) _ _ c.in_ok-n.ensures.says (sym c.in_err-t.ensures.laid))
 
-pub returns-then-not-t : goal.returns-then-not-t
-returns-then-not-t c =
-    let t = c.args.text.now in
-    no_line_lem t _ _ _ _ _ _
-    (no_second t _ _ _ c.read_field-n.ensures (not-false _ c.if-not-n.false)
-    _ _ _ c.read_field-t.ensures (not-true _ c.if-not-t.true))
-    c.no_first_line-then-not-t.ensures
+pub returns-in_err-end-clause-laid : goal.returns-in_err-end-clause-laid
+returns-in_err-end-clause-laid c =
+    let none : is_some c.from_residual-in_err-end.result ≡ false = search rules in
+    none ∙ c.in_err-end.ensures.laid
+    ∙ line_laid c.args.text.now (sym c.in_ok-n.ensures.laid) _ _ c.in_ok-n.ensures.says (sym c.in_ok-t.ensures.laid) _ _ c.in_ok-t.ensures.says
 
-pub read_end-end-requires : goal.read_end-end-requires
-read_end-end-requires c = (c.read_field-t.ensures.says (not-false _ c.if-not-t.false)).rest.within
+pub returns-clause-laid : goal.returns-clause-laid
+returns-clause-laid c =
+    c.in_ok-end.ensures.laid
+    ∙ line_laid c.args.text.now (sym c.in_ok-n.ensures.laid) _ _ c.in_ok-n.ensures.says (sym c.in_ok-t.ensures.laid) _ _ c.in_ok-t.ensures.says
 
-pub returns : goal.returns
-returns c =
-    let t = c.args.text.now in
-    line_read t _ _ _ c.read_field-n.ensures (not-false _ c.if-not-n.false)
-    _ _ _ c.read_field-t.ensures (not-false _ c.if-not-t.false) _ _ _ _ c.read_end-end.ensures
+pub returns-clause-says : goal.returns-clause-says
+returns-clause-says c =
+    line_says c.args.text.now (sym c.in_ok-n.ensures.laid) _ _ c.in_ok-n.ensures.says (sym c.in_ok-t.ensures.laid) _ _ c.in_ok-t.ensures.says
+    _ _ _ c.in_ok-end.ensures.says

@@ -1,35 +1,12 @@
--- `exam_reading::lines::are_bits` meets its contract. The loop's invariant: the characters that are left decide, and lie within. The measure is how many are
--- left.
-use native.Mathlib.Numerals.{add-one}
-use native.Mathlib.Omega.{arith}
-use mathlib.Core.Path.{refl, sym, ◌∙◌}
-use lib.ListN.{drop}
-use Rattle.exam_text.proofs.LineTests.{bits_none, bits_no, bits_yes}
+-- `exam_reading::lines::are_bits` meets its contract.
+use Rattle.std.proofs.Common.{rules, ◌∙◌, ◌||◌, nat_eq}
+use borrow.Author.Tests.{tests}
+use Rattle.std.proofs.lemmas.Iterator.{YieldsList-from_slice}
+use Rattle.std.proofs.lemmas.Iterator.Search.{all_from_yields_List}
+use Rattle.exam_text.proofs.LineTests.{all_bits}
 use Rattle.exam_reading.proofs.lines.are_bits.Goals as goal
-
-pub loop-left-init : goal.loop-left-init
-loop-left-init c = (omega arith, refl)
-
-pub returns-then-c-lt48 : goal.returns-then-c-lt48
-returns-then-c-lt48 c =
-    let t = c.args.text.now in
-    let l = c.loop-left in
-    sym (l.invariant.1 ∙ bits_no t l.i l.left (omega arith) (omega arith) (λ e. omega arith) (λ e. omega arith))
-
-pub returns-then-c-gt49 : goal.returns-then-c-gt49
-returns-then-c-gt49 c =
-    let t = c.args.text.now in
-    let l = c.loop-left in
-    sym (l.invariant.1 ∙ bits_no t l.i l.left (omega arith) (omega arith) (λ e. omega arith) (λ e. omega arith))
-
-pub loop-left-preserved : goal.loop-left-preserved
-loop-left-preserved c =
-    let t = c.args.text.now in
-    let l = c.loop-left in
-    rw (add-one l.i) (omega arith, l.invariant.1 ∙ bits_yes t l.i l.left (omega arith) (omega arith) (omega arith) (omega arith))
 
 pub returns : goal.returns
 returns c =
-    let t = c.args.text.now in
-    let l = c.loop-left in
-    sym (l.invariant.1 ∙ bits_none l.left (drop l.i t) (omega arith))
+    all_from_yields_List (λ x. nat_eq x 48 || nat_eq x 49) _ _ _ c.all.ensures.ran (YieldsList-from_slice c.args.characters.now cc) (λ x b q k. search (rules, tests))
+    ∙ all_bits c.args.characters.now

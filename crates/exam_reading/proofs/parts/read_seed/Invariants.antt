@@ -1,4 +1,4 @@
-use Prim.Native.Nat.{◌+◌, ◌-◌, ◌*◌, ◌≤◌}
+use Prim.Native.Nat.{◌-◌, ◌*◌}
 use mathlib.Core.Path.{◌≡◌}
 use mathlib.Core.Bool.{true}
 use mathlib.Core.List.{◌++◌}
@@ -8,10 +8,6 @@ use Rattle.exam_reading.proofs.parts.read_seed.Given as goal
 
 abbrev pub invariant-loop-i : goal.invariant-loop-i
 invariant-loop-i l =
-    (l.i ≤ 16)
-    × (length l.seed ≡ 16)
-    × (are_hex (take (32 - 2 * l.i) (drop (l.at + 2 * l.i) l.text)) ≡ true)
-    × (take l.i l.seed ++ bytes_read (take (32 - 2 * l.i) (drop (l.at + 2 * l.i) l.text)) ≡ bytes_read (take 32 (drop l.at l.text)))
-
-abbrev pub decreases-loop-i : goal.decreases-loop-i
-decreases-loop-i l = 16 - l.i
+    (length l.seed ≡ 16)
+    × (are_hex (take (32 - 2 * l.i) (drop (2 * l.i) l.digits)) ≡ true)
+    × (take l.i l.seed ++ bytes_read (take (32 - 2 * l.i) (drop (2 * l.i) l.digits)) ≡ bytes_read l.digits)

@@ -20,7 +20,6 @@ use Rattle.tree.proofs.Levels.{reaching_at}
 use Rattle.levels.specs.LevelRead.{reaching_in}
 use Rattle.levels.proofs.Pieces.{unpack_padded, children_at, grown_part, grown_window}
 use Rattle.levels.proofs.children.write_children.Goals as goal
-use Rattle.levels.proofs.children.write_children.Goals.{In-loop-i}
 
 pub loop-i-init : goal.loop-i-init
 loop-i-init c =

@@ -7,4 +7,4 @@ use Rattle.walk.proofs.pairs.ServerKey.second_node.Goals as goal
 pub returns-then-same_bits : goal.returns-then-same_bits
 returns-then-same_bits c =
     let a = c.args in
-    c.requires ∙ node_local (scheme a.self.expander) a.self.seed a.self.server a.k (λ i l. refl) (c.same_bits.ensures.below c.if-same_bits.true)
+    c.requires ∙ node_local (scheme a.self.now.expander) a.self.now.seed a.self.now.server a.k (λ i l. refl) (c.same_bits.ensures.below c.if-same_bits.true)
