@@ -1,8 +1,8 @@
 // The functions that C and Rust link, which crate `capi_c` exports.
 #![tactic(auto)]
 
-mod block;
-mod combined;
+mod one_block;
+mod told;
 
 ghost use Rattle.std.specs.Prelude.{◌≡◌, map, length};
 ghost use Rattle.calls.specs.Outcome.{left};
@@ -18,7 +18,7 @@ ghost use Rattle.search.specs.Search.{lent, search_ending, returned};
 ghost use Rattle.shares.specs.Add.{add_exit};
 ghost use Rattle.space.specs.SearchSpace.{named_record_space, named_list_space};
 
-use crate::block::write_block;
+use crate::one_block::write_block;
 use calls::Reply;
 use nodes::Node;
 use search::Found;

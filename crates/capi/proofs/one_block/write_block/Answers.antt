@@ -1,4 +1,4 @@
--- `capi::block::write_block` meets its contract: at each return the tests that led there say which outcome is the call's.
+-- `capi::one_block::write_block` meets its contract: at each return the tests that led there say which outcome is the call's.
 use mathlib.Core.Path.{◌≡◌, refl, sym, ap, ◌∙◌}
 use mathlib.Core.List.{List, []}
 use lib.ListN.{length}
@@ -16,7 +16,7 @@ use Rattle.calls.proofs.Judged.{accepted_with}
 use Rattle.expander.specs.Expander.{block_of}
 use Rattle.expander.proofs.Sized.{block_length}
 use Rattle.capi.proofs.Block.{unknown_expander, wrong_length, no_room_lem, all_well}
-use Rattle.capi.proofs.block.write_block.Goals as goal
+use Rattle.capi.proofs.one_block.write_block.Goals as goal
 
 -- a refusal leaves the space as it was
 refusing : (e : Refusal) (area : List ℕ) → answered (Err e) area ≡ exit (refused (number_of e)) area
