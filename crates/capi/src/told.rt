@@ -10,6 +10,7 @@ use combine::Combined;
 impl From<Result<Combined, Refusal>> for CombineReply {
     ghost from_gives = { λ answer reply. (area : List ℕ) → in_c reply area ≡ as_numbers (told answer area) };
 
+    #[tactic(auto, unfolding(combine::specs::Combine::told))]
     fn from(answer: Result<Combined, Refusal>) -> CombineReply {
         match answer {
             Ok(Combined::Next(length)) => CombineReply {
