@@ -13,16 +13,16 @@ use Rattle.calls.proofs.Decisions.{differ, differ_test}
 use Rattle.calls.proofs.Judged.{due, none, next, expander_decided, space_decided}
 use Rattle.expander.specs.Expander.{block_of, choice_of}
 use Rattle.expander.specs.declared.Expander.{Expander}
-use Rattle.expander.specs.declared.Choice.TheVariants.{Known, Unknown}
+use Rattle.std.specs.Prelude.{Some, None}
 use Rattle.expander.proofs.Chosen.{known, unknown}
 use Rattle.capi.specs.Block.{block_causes, block_outcome}
 
 module _ (e : ℕ) (seed : List ℕ) (j room : ℕ) where
-  pub unknown_expander : choice_of e ≡ Unknown → block_outcome e seed j room ≡ refused 3
+  pub unknown_expander : choice_of e ≡ None → block_outcome e seed j room ≡ refused 3
   unfolding block_outcome
   unknown_expander h = rw (unknown e h)
 
-  module _ (x : Expander) (h : choice_of e ≡ Known x) where
+  module _ (x : Expander) (h : choice_of e ≡ Some x) where
     pub wrong_length : length seed ≢ 16 → block_outcome e seed j room ≡ refused 4
     unfolding block_outcome
     wrong_length l = rw (known e x h, ne_eqb (length seed) 16 l)

@@ -1,2 +1,1 @@
 pub mod Block
-mod Combined

@@ -2,7 +2,7 @@
 use Rattle.std.specs.Prelude.{ℕ, Bool, List}
 use Rattle.std.proofs.Math.Option.{Option, none, some}
 use Rattle.combine.specs.Answer.{Kind, next_query, heavy_list, search_ended}
-use Rattle.combine.specs.Combine.{combine_exit}
+use Rattle.combine.specs.Combine.{CombineExit, combine_exit}
 use Rattle.capi.specs.declared.CombineReply.{CombineReply}
 
 -- 0 for a refusal, 1 for the next query, 2 for the list, 3 where the search ended
@@ -18,6 +18,10 @@ pub record InC : Type 0 where
   pub kind : ℕ
   pub length : ℕ
   pub area : List ℕ
+
+-- an exit with the kind as a number
+abbrev pub as_numbers : CombineExit → InC
+as_numbers x = record { number = x.number; kind = kind_number x.kind; length = x.length; area = x.area }
 
 -- what combining returns, and the space that it is lent, at exit
 abbrev pub combine_in_c : ℕ → Bool → ℕ → List ℕ → List ℕ → List ℕ → List ℕ → InC

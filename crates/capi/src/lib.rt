@@ -1,6 +1,9 @@
 // The functions that C and Rust link, which crate `capi_c` exports.
 #![tactic(auto)]
 
+mod one_block;
+mod told;
+
 ghost use Rattle.std.specs.Prelude.{◌≡◌, map, length};
 ghost use Rattle.calls.specs.Outcome.{left};
 ghost use Rattle.capi.specs.Block.{block_exit};
@@ -15,9 +18,8 @@ ghost use Rattle.search.specs.Search.{lent, search_ending, returned};
 ghost use Rattle.shares.specs.Add.{add_exit};
 ghost use Rattle.space.specs.SearchSpace.{named_record_space, named_list_space};
 
+use crate::one_block::write_block;
 use calls::Reply;
-use combine::Combined;
-use expander::Choice;
 use nodes::Node;
 use search::Found;
 
@@ -25,32 +27,7 @@ use search::Found;
 pub fn tally_block(expander: u64, seed: &[u8], j: u64, block: &mut [u8]) -> Reply
     ensures { left result block.new ≡ block_exit expander seed.now j block.old }
 {
-    match expander::choose(expander) {
-        Choice::Known(e) => {
-            if seed.len() != 16 {
-                return Reply {
-                    number: 4,
-                    length: 0,
-                };
-            }
-            if block.len() < 16 {
-                return Reply {
-                    number: 11,
-                    length: 0,
-                };
-            }
-            let bytes = expander::block(e, places::read16(seed, 0), j);
-            places::write16(block, 0, bytes);
-            Reply {
-                number: 0,
-                length: 16,
-            }
-        }
-        Choice::Unknown => Reply {
-            number: 3,
-            length: 0,
-        },
-    }
+    Reply::from(write_block(expander, seed, j, block))
 }
 
 // Writes the public share of a packed string of n bits with its weight; refuses with 1, 3, 4, 7 or 11.
@@ -66,7 +43,7 @@ pub fn tally_key(
     ensures { left result public_share.new ≡ key_exit n expander weight string.now seed0.now seed1.now
         public_share.old }
 {
-    keymaker::make_key(n, expander, weight, string, seed0, seed1, public_share)
+    Reply::from(keymaker::make_key(n, expander, weight, string, seed0, seed1, public_share))
 }
 
 // Writes a server's share for a query, 8 bytes a prefix; the server is told by a truth value, true for 1. Refuses with 1, 3, 4, 5, 6,
@@ -83,7 +60,7 @@ pub fn tally_share(
     ensures { left result share.new ≡ share_exit n expander server seeds.now public_shares.now query.now
         share.old }
 {
-    idpf::share(n, expander, server, seeds, public_shares, query, share)
+    Reply::from(idpf::share(n, expander, server, seeds, public_shares, query, share))
 }
 
 // Writes the list of nodes at the roots: for each seed a node with it and the server's bit. Returns 4, 5 or 13 where it refuses, and else 0.
@@ -91,7 +68,10 @@ pub fn tally_roots(server: bool, seeds: &[u8], nodes: &mut [Node]) -> u64
     ensures { (result ≡ roots_number seeds.now (length nodes.old))
         × (map node_of nodes.new ≡ roots_after server seeds.now (map node_of nodes.old)) }
 {
-    kept_nodes::write_roots(server, seeds, nodes)
+    match kept_nodes::write_roots(server, seeds, nodes) {
+        Ok(()) => 0,
+        Err(refusal) => refusal.number(),
+    }
 }
 
 // Writes a server's share for a query from the nodes kept at the last one, and leaves in their place those at the new one; no bytes are lent for the last
@@ -109,7 +89,7 @@ pub fn tally_share_kept(
     ensures { kept_left result share.new (map node_of nodes.new)
         ≡ kept_exit (kept_lent n expander server public_shares.now last_query.now query.now (map node_of nodes.old) share.old) }
 {
-    kept_nodes::share_kept(
+    Reply::from(kept_nodes::share_kept(
         n,
         expander,
         server,
@@ -118,14 +98,14 @@ pub fn tally_share_kept(
         query,
         nodes,
         share,
-    )
+    ))
 }
 
 // Writes the sum, number by number, of two shares of one server for one query; refuses with 4, 6 or 11.
 pub fn tally_add(share0: &[u8], share1: &[u8], out: &mut [u8]) -> Reply
     ensures { left result out.new ≡ add_exit share0.now share1.now out.old }
 {
-    shares::add_shares(share0, share1, out)
+    Reply::from(shares::add_shares(share0, share1, out))
 }
 
 // What combining returns: the number of the cause that refused it, or 0; the kind of its answer, 0 for a refusal, 1 for the next query, 2 for the
@@ -151,28 +131,7 @@ pub fn tally_combine(
 ) -> CombineReply
     ensures { in_c result out.new ≡ combine_in_c n weighted t query.now share0.now share1.now out.old }
 {
-    match combine::combine(n, weighted, t, query, share0, share1, out) {
-        Combined::Next(length) => CombineReply {
-            number: 0,
-            kind: 1,
-            length,
-        },
-        Combined::List(length) => CombineReply {
-            number: 0,
-            kind: 2,
-            length,
-        },
-        Combined::Ended => CombineReply {
-            number: 0,
-            kind: 3,
-            length: 0,
-        },
-        Combined::Refused(number) => CombineReply {
-            number,
-            kind: 0,
-            length: 0,
-        },
-    }
+    CombineReply::from(combine::combine(n, weighted, t, query, share0, share1, out))
 }
 
 // Writes the record and the list of a whole search; refuses with 1 to 8, with 12 in the place of 2 where it is weighted, or with 11, and then makes every
@@ -193,7 +152,7 @@ pub fn tally_search(
         public_shares0.now
         seeds1.now public_shares1.now «record».old list.old) }
 {
-    search::search(
+    Found::from(search::search(
         n,
         weighted,
         t,
@@ -204,7 +163,7 @@ pub fn tally_search(
         public_shares1,
         record,
         list,
-    )
+    ))
 }
 
 // Answers an exam text: a line for each queried prefix, then the heavy strings; refuses with 10, 1, 2, 3 or 11.

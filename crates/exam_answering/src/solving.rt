@@ -20,6 +20,7 @@ use exam_lines::write_text;
 use exam_reading::SheetHead;
 use exam_reports::make_reports;
 use nodes::public_share_length;
+use search::Found;
 
 // Prints the queries and totals of the record, and the list, of a search that is accepted; both servers are lent the same public shares.
 fn search_printed(
@@ -44,9 +45,9 @@ fn search_printed(
         seeds1.now shares.now area.old list.old))) out.old }
 {
     let SheetHead { n, t, expander, .. } = sheet;
-    let found = search::search(
+    let found = Found::from(search::search(
         n as u64, false, t, expander, seeds0, shares, seeds1, shares, area, list,
-    );
+    ));
     let record_end = found.record_length as usize;
     let list_end = found.list_length as usize;
     print(n, &area[..record_end], &list[..list_end], out)

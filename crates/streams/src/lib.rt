@@ -58,6 +58,7 @@ pub fn read_text<R: Read>(reader: &mut R, text: &mut [u8]) -> Result<usize, Cut>
     ensures cut { IfOk result (λ n. IfSome (R.remaining reader.old) (λ bytes. take n text.new ≡ take (length text.new) bytes)) }
 {
     let mut done = 0;
+    // No `for`: each read says how far on the next one begins.
     while done < text.len() {
         let part = &mut text[done..];
         match reader.read(part) {

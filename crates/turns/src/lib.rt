@@ -13,7 +13,8 @@ use expander::Expander;
 use nodes::Node;
 
 // What a call is to do: the expander; how many levels a public share has; the server; the level that is gone down; how many reports there are,
-// prefixes in the last query, and prefixes in the new one.
+// prefixes in the last query, and prefixes in the new one. The public shares and the queries are handed on beside it: the definitions of `specs/Turns` are
+// over a task of numbers, and one that borrows would put its references into each of them.
 #[derive(Clone, Copy)]
 pub struct Task {
     pub expander: Expander,
@@ -61,10 +62,7 @@ fn target_of(count: usize, left: usize) -> usize
     if left <= count {
         return left - 1;
     }
-    if count + count < left {
-        return 0;
-    }
-    count + count - left
+    (count + count).saturating_sub(left)
 }
 
 // The place with `left` turns left, its parent looked for from `hint` on.

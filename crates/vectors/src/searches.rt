@@ -1,7 +1,7 @@
 // Whole searches: examples D to J of the sheet, and the bounds of n and t, as lines.
 use crate::hexadecimal::Hexadecimal;
 use numbers::write_le8;
-use places::{copy, read16};
+use places::copy;
 use search::Found;
 use std::io;
 use std::io::Write;
@@ -15,18 +15,49 @@ fn bytes<W: Write>(printed: &mut W, s: &[u8], end: usize) -> io::Result<()> {
     Ok(())
 }
 
-// The line of a search: its label, number, record and list.
-fn show<W: Write>(
-    printed: &mut W,
-    label: &str,
-    found: Found,
-    record: &[u8],
-    list: &[u8],
-) -> io::Result<()> {
-    write!(printed, "search {label} {}", found.number)?;
-    bytes(printed, record, found.record_length as usize)?;
-    bytes(printed, list, found.list_length as usize)?;
-    writeln!(printed)
+// A search in which both servers hold the same public shares.
+#[derive(Clone, Copy)]
+struct Search<'a> {
+    n: u64,
+    weighted: bool,
+    t: u64,
+    expander: u64,
+    seeds0: &'a [u8],
+    seeds1: &'a [u8],
+    shares: &'a [u8],
+}
+
+impl Search<'_> {
+    // What C is told of it.
+    fn run(self, record: &mut [u8], list: &mut [u8]) -> Found {
+        Found::from(search::search(
+            self.n,
+            self.weighted,
+            self.t,
+            self.expander,
+            self.seeds0,
+            self.shares,
+            self.seeds1,
+            self.shares,
+            record,
+            list,
+        ))
+    }
+
+    // Its line: its label, number, record and list.
+    fn show<W: Write>(
+        self,
+        printed: &mut W,
+        label: &str,
+        record: &mut [u8],
+        list: &mut [u8],
+    ) -> io::Result<()> {
+        let found = self.run(record, list);
+        write!(printed, "search {label} {}", found.number)?;
+        bytes(printed, record, found.record_length as usize)?;
+        bytes(printed, list, found.list_length as usize)?;
+        writeln!(printed)
+    }
 }
 
 // Root seeds of three reports, which differ in their first bytes.
@@ -38,53 +69,16 @@ fn seeds(first: u64) -> [u8; 48] {
     s
 }
 
-// The public share of a report with a weight, whose string has 2 bits, in its place.
-fn put_key(
-    expander: u64,
-    weight: i16,
-    string: u8,
-    seed0: [u8; 16],
-    seed1: [u8; 16],
-    shares: &mut [u8],
-    at: usize,
-) {
-    let packed = [string];
-    let mut key = [0u8; 49];
-    keymaker::make_key(2, expander, weight, &packed, &seed0, &seed1, &mut key);
-    copy(&key, shares, at);
-}
-
-// The public shares of three reports.
-fn keys(expander: u64, strings: [u8; 3], seeds0: [u8; 48], seeds1: [u8; 48]) -> [u8; 147] {
-    let mut shares = [0u8; 147];
-    put_key(
-        expander,
-        1,
-        strings[0],
-        read16(&seeds0, 0),
-        read16(&seeds1, 0),
-        &mut shares,
-        0,
-    );
-    put_key(
-        expander,
-        1,
-        strings[1],
-        read16(&seeds0, 16),
-        read16(&seeds1, 16),
-        &mut shares,
-        49,
-    );
-    put_key(
-        expander,
-        1,
-        strings[2],
-        read16(&seeds0, 32),
-        read16(&seeds1, 32),
-        &mut shares,
-        98,
-    );
-    shares
+// The public shares of reports with a weight each, whose strings have 2 bits, each in its place.
+fn put_keys(expander: u64, reports: &[(i16, u8)], seeds0: &[u8], seeds1: &[u8], shares: &mut [u8]) {
+    let roots = seeds0.chunks_exact(16).zip(seeds1.chunks_exact(16));
+    for ((key, (seed0, seed1)), (weight, string)) in shares
+        .chunks_exact_mut(49)
+        .zip(roots)
+        .zip(reports)
+    {
+        let _ = keymaker::make_key(2, expander, *weight, &[*string], seed0, seed1, key);
+    }
 }
 
 // A search of three strings of 2 bits with t = 2 and the given room for the record.
@@ -97,40 +91,29 @@ fn example<W: Write>(
 ) -> io::Result<()> {
     let seeds0 = seeds(0xfedcba9876543210);
     let seeds1 = seeds(0x0123456789abcdef);
-    let shares = keys(expander, strings, seeds0, seeds1);
-    let mut list = [255u8; 1];
-    let found = search::search(
-        2, false, 2, expander, &seeds0, &shares, &seeds1, &shares, record, &mut list,
-    );
-    show(printed, label, found, record, &list)
+    let reports = strings.map(|string| (1, string));
+    let mut shares = [0u8; 147];
+    put_keys(expander, &reports, &seeds0, &seeds1, &mut shares);
+    let search = Search {
+        n: 2,
+        weighted: false,
+        t: 2,
+        expander,
+        seeds0: &seeds0,
+        seeds1: &seeds1,
+        shares: &shares,
+    };
+    search.show(printed, label, record, &mut [255u8; 1])
 }
 
 // Examples D, E, F and J.
 pub(crate) fn examples<W: Write>(printed: &mut W, expander: u64) -> io::Result<()> {
     let mut record = [255u8; 56];
-    example(
-        printed,
-        "D",
-        expander,
-        [0x40u8, 0x40u8, 0xc0u8],
-        &mut record,
-    )?;
-    example(
-        printed,
-        "E",
-        expander,
-        [0x40u8, 0x40u8, 0x80u8],
-        &mut record,
-    )?;
-    example(
-        printed,
-        "F",
-        expander,
-        [0x40u8, 0x00u8, 0xc0u8],
-        &mut record,
-    )?;
+    example(printed, "D", expander, [0x40, 0x40, 0xc0], &mut record)?;
+    example(printed, "E", expander, [0x40, 0x40, 0x80], &mut record)?;
+    example(printed, "F", expander, [0x40, 0x00, 0xc0], &mut record)?;
     let mut short = [255u8; 55];
-    example(printed, "J", expander, [0x40u8, 0x40u8, 0xc0u8], &mut short)?;
+    example(printed, "J", expander, [0x40, 0x40, 0xc0], &mut short)?;
     writeln!(printed, "search record area {}", Hexadecimal(&short))
 }
 
@@ -142,33 +125,28 @@ fn one_report<W: Write>(
     seed0: [u8; 16],
     seed1: [u8; 16],
 ) -> io::Result<()> {
-    let mut record = [255u8; 32];
-    let mut list = [255u8; 2];
-    let found = search::search(
-        1,
-        false,
-        1,
-        2,
-        &seed0,
-        share,
-        &seed1,
-        share,
-        &mut record,
-        &mut list,
-    );
-    show(printed, label, found, &record, &list)
+    let search = Search {
+        n: 1,
+        weighted: false,
+        t: 1,
+        expander: 2,
+        seeds0: &seed0,
+        seeds1: &seed1,
+        shares: share,
+    };
+    search.show(printed, label, &mut [255u8; 32], &mut [255u8; 2])
 }
 
 // Examples H, and I with the payload corrections p − 1 and p.
 pub(crate) fn one_bit<W: Write>(printed: &mut W) -> io::Result<()> {
-    let string = [0x80u8];
+    let string = [0x80];
     let zero = [0u8; 16];
     let mut one = [0u8; 16];
     write_le8(&mut one, 0, 1);
     let mut share = [0u8; 25];
-    keymaker::make_key(1, 2, 1, &string, &zero, &zero, &mut share);
+    let _ = keymaker::make_key(1, 2, 1, &string, &zero, &zero, &mut share);
     one_report(printed, "H", &share, zero, zero)?;
-    keymaker::make_key(1, 2, 1, &string, &zero, &one, &mut share);
+    let _ = keymaker::make_key(1, 2, 1, &string, &zero, &one, &mut share);
     write_le8(&mut share, 17, 18446744069414584320);
     one_report(printed, "I p - 1", &share, zero, one)?;
     write_le8(&mut share, 17, 18446744069414584321);
@@ -183,22 +161,16 @@ pub(crate) fn bounds<W: Write>(
     weighted: bool,
     t: u64,
 ) -> io::Result<()> {
-    let none = [0u8; 0];
-    let mut record = [255u8; 32];
-    let mut list = [255u8; 1];
-    let found = search::search(
+    let search = Search {
         n,
         weighted,
         t,
-        2,
-        &none,
-        &none,
-        &none,
-        &none,
-        &mut record,
-        &mut list,
-    );
-    show(printed, label, found, &record, &list)
+        expander: 2,
+        seeds0: &[],
+        seeds1: &[],
+        shares: &[],
+    };
+    search.show(printed, label, &mut [255u8; 32], &mut [255u8; 1])
 }
 
 // A search of one string of 256 bits, with t = 1: its number, the lengths of its record and list, and the list.
@@ -210,21 +182,18 @@ pub(crate) fn longest<W: Write>(
     seed1: &[u8],
 ) -> io::Result<()> {
     let mut share = [0u8; 6208];
-    keymaker::make_key(256, expander, 1, string, seed0, seed1, &mut share);
-    let mut record = [0u8; 14088];
-    let mut list = [0u8; 32];
-    let found = search::search(
-        256,
-        false,
-        1,
+    let _ = keymaker::make_key(256, expander, 1, string, seed0, seed1, &mut share);
+    let search = Search {
+        n: 256,
+        weighted: false,
+        t: 1,
         expander,
-        seed0,
-        &share,
-        seed1,
-        &share,
-        &mut record,
-        &mut list,
-    );
+        seeds0: seed0,
+        seeds1: seed1,
+        shares: &share,
+    };
+    let mut list = [0u8; 32];
+    let found = search.run(&mut [0u8; 14088], &mut list);
     write!(
         printed,
         "search 256 bits {} {}",
@@ -236,36 +205,28 @@ pub(crate) fn longest<W: Write>(
 
 // A weighted search of the strings `01`, `01`, `11` and `10`, whose weights are 5, −2, −7 and 4: `0` reaches the threshold 2, and `1` has a negative total.
 pub(crate) fn weighted<W: Write>(printed: &mut W) -> io::Result<()> {
+    let seeds0 = repeated([1, 3, 5, 7]);
+    let seeds1 = repeated([2, 4, 6, 8]);
+    let reports = [(5, 0x40), (-2, 0x40), (-7, 0xc0), (4, 0x80)];
     let mut shares = [0u8; 196];
-    put_key(2, 5, 0x40, [1u8; 16], [2u8; 16], &mut shares, 0);
-    put_key(2, -2, 0x40, [3u8; 16], [4u8; 16], &mut shares, 49);
-    put_key(2, -7, 0xc0, [5u8; 16], [6u8; 16], &mut shares, 98);
-    put_key(2, 4, 0x80, [7u8; 16], [8u8; 16], &mut shares, 147);
-    let mut seeds0 = [0u8; 64];
-    let mut seeds1 = [0u8; 64];
-    put_seeds(&mut seeds0, 1, 3, 5, 7);
-    put_seeds(&mut seeds1, 2, 4, 6, 8);
-    let mut record = [255u8; 56];
-    let mut list = [255u8; 1];
-    let found = search::search(
-        2,
-        true,
-        2,
-        2,
-        &seeds0,
-        &shares,
-        &seeds1,
-        &shares,
-        &mut record,
-        &mut list,
-    );
-    show(printed, "weighted", found, &record, &list)
+    put_keys(2, &reports, &seeds0, &seeds1, &mut shares);
+    let search = Search {
+        n: 2,
+        weighted: true,
+        t: 2,
+        expander: 2,
+        seeds0: &seeds0,
+        seeds1: &seeds1,
+        shares: &shares,
+    };
+    search.show(printed, "weighted", &mut [255u8; 56], &mut [255u8; 1])
 }
 
 // Four root seeds, each of one byte repeated.
-fn put_seeds(seeds: &mut [u8], first: u8, second: u8, third: u8, fourth: u8) {
-    copy(&[first; 16], seeds, 0);
-    copy(&[second; 16], seeds, 16);
-    copy(&[third; 16], seeds, 32);
-    copy(&[fourth; 16], seeds, 48);
+fn repeated(bytes: [u8; 4]) -> [u8; 64] {
+    let mut seeds = [0u8; 64];
+    for (seed, byte) in seeds.chunks_exact_mut(16).zip(bytes) {
+        seed.fill(byte);
+    }
+    seeds
 }

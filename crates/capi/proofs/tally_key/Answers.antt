@@ -9,5 +9,5 @@ use Rattle.capi.proofs.tally_key.Goals as goal
 pub returns : goal.returns
 returns c =
     let a = c.args in
-    c.make_key.ensures
+    c.from.ensures _ ∙ c.make_key.ensures
     ∙ ap (λ (w : ℤ). key_exit a.n a.expander w a.string.now a.seed0.now a.seed1.now a.public_share.now) (to_z-of_z w16 a.weight c.ranges.weight)
