@@ -1,5 +1,5 @@
 -- The bytes of a word and of a state, in their order.
-use Rattle.std.specs.Prelude.{List, [], ◌∷◌, ◌++◌, ℕ, ◌/◌, ◌%◌}
+use Rattle.std.specs.Prelude.{get_or, List, [], ◌∷◌, ◌++◌, ℕ, ◌/◌, ◌%◌}
 use Rattle.aes.specs.declared.word.Word.{Word}
 use Rattle.aes.specs.declared.state.State.{State}
 
@@ -11,6 +11,10 @@ four_bytes x = x % 256 ∷ x / 256 % 256 ∷ x / 65536 % 256 ∷ x / 16777216 % 
 abbrev pub word_of : Word → List ℕ
 word_of w = four_bytes w.bits
 
+-- Column j of a state.
+abbrev pub column : State → ℕ → Word
+column s j = get_or s.columns j record { bits = 0 }
+
 -- The bytes of a state, column by column.
 abbrev pub bytes_of : State → List ℕ
-bytes_of s = word_of s.w0 ++ word_of s.w1 ++ word_of s.w2 ++ word_of s.w3
+bytes_of s = word_of (column s 0) ++ word_of (column s 1) ++ word_of (column s 2) ++ word_of (column s 3)

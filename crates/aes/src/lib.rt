@@ -2,97 +2,59 @@
 #![tactic(auto)]
 
 ghost use Rattle.std.specs.Prelude.{◌≡◌};
-ghost use Rattle.aes.specs.Fips197.{s_box_table, round_key, cipher};
+ghost use Rattle.aes.specs.Fips197.{round_key, cipher};
 
 mod sbox;
 mod state;
 mod word;
 
+use sbox::SBox;
 use state::State;
-
-// Two blocks encrypted under one key.
-#[derive(Clone, Copy)]
-pub struct Pair {
-    pub first: [u8; 16],
-    pub second: [u8; 16],
-}
 
 // A block encrypted under a key.
 pub fn encrypt(key: [u8; 16], block: [u8; 16]) -> [u8; 16]
     ensures { result ≡ cipher key block }
 {
-    let table = sbox::table();
-    encrypt_with(&table, key, block)
+    let s_box = SBox::new();
+    let mut k = State::load(key);
+    let mut s = State::begin(block, k);
+    for i in 0..9 {
+        k = k.next_round_key(&s_box, i);
+        s = s.round(&s_box, k);
+    }
+    k = k.next_round_key(&s_box, 9);
+    s.last_round(&s_box, k).store()
 }
 
 // Two blocks encrypted under one key, each round key being computed once.
-pub fn encrypt_two(key: [u8; 16], first: [u8; 16], second: [u8; 16]) -> Pair
-    ensures { (result.first ≡ cipher key first) × (result.second ≡ cipher key second) }
+// A walk of its own: with the round keys kept in an array blocks took 1.16 times as long, and a whole search has room for 1.07 (0.56 of a bar of 0.6).
+pub fn encrypt_two(key: [u8; 16], first: [u8; 16], second: [u8; 16]) -> ([u8; 16], [u8; 16])
+    ensures { (result.0 ≡ cipher key first) × (result.1 ≡ cipher key second) }
 {
-    let table = sbox::table();
-    encrypt_two_with(&table, key, first, second)
+    let s_box = SBox::new();
+    let mut k = State::load(key);
+    let mut s = State::begin(first, k);
+    let mut u = State::begin(second, k);
+    for j in 0..9 {
+        k = k.next_round_key(&s_box, j);
+        s = s.round(&s_box, k);
+        u = u.round(&s_box, k);
+    }
+    k = k.next_round_key(&s_box, 9);
+    (
+        s.last_round(&s_box, k).store(),
+        u.last_round(&s_box, k).store(),
+    )
 }
 
 // The round key of the last round of a key.
 pub fn last_round_key(key: [u8; 16]) -> [u8; 16]
     ensures { result ≡ round_key key 10 }
 {
-    let table = sbox::table();
-    last_round_key_with(&table, key)
-}
-
-// `encrypt`, with the table lent.
-fn encrypt_with(table: &[u8; 256], key: [u8; 16], block: [u8; 16]) -> [u8; 16]
-    requires { table.now ≡ s_box_table }
-    ensures { result ≡ cipher key block }
-{
+    let s_box = SBox::new();
     let mut k = State::load(key);
-    let mut s = State::begin(block, k);
-    let mut i: usize = 0;
-    while i < 9 {
-        k = k.next_round_key(table, i);
-        s = s.round(table, k);
-        i += 1;
-    }
-    k = k.next_round_key(table, 9);
-    s = s.last_round(table, k);
-    s.store()
-}
-
-// `encrypt_two`, with the table lent.
-fn encrypt_two_with(table: &[u8; 256], key: [u8; 16], first: [u8; 16], second: [u8; 16]) -> Pair
-    requires { table.now ≡ s_box_table }
-    ensures { (result.first ≡ cipher key first) × (result.second ≡ cipher key second) }
-{
-    let mut k = State::load(key);
-    let mut s = State::begin(first, k);
-    let mut u = State::begin(second, k);
-    let mut j: usize = 0;
-    while j < 9 {
-        k = k.next_round_key(table, j);
-        s = s.round(table, k);
-        u = u.round(table, k);
-        j += 1;
-    }
-    k = k.next_round_key(table, 9);
-    s = s.last_round(table, k);
-    u = u.last_round(table, k);
-    Pair {
-        first: s.store(),
-        second: u.store(),
-    }
-}
-
-// `last_round_key`, with the table lent.
-fn last_round_key_with(table: &[u8; 256], key: [u8; 16]) -> [u8; 16]
-    requires { table.now ≡ s_box_table }
-    ensures { result ≡ round_key key 10 }
-{
-    let mut k = State::load(key);
-    let mut n: usize = 0;
-    while n < 10 {
-        k = k.next_round_key(table, n);
-        n += 1;
+    for n in 0..10 {
+        k = k.next_round_key(&s_box, n);
     }
     k.store()
 }

@@ -1,24 +1,29 @@
-// The S-box of FIPS 197 as a table, which is lent to what reads it.
+// The S-box of FIPS 197 as a table, which is made once in each published call and lent to what reads it.
 ghost use Rattle.std.specs.Prelude.{◌≡◌};
 ghost use Rattle.aes.specs.Fips197.{s_box, s_box_table};
 
-// The table of the S-box.
-pub(crate) fn table() -> [u8; 256]
-    ensures { result ≡ s_box_table }
-{
-    SBOX
+// The S-box, as the table of its 256 values.
+#[derive(Drop)]
+pub(crate) struct SBox {
+    values: [u8; 256],
+    ghost right: { values ≡ s_box_table },
 }
 
-// The S-box at a byte.
-pub(crate) fn sub(table: &[u8; 256], x: u8) -> u8
-    requires { table.now ≡ s_box_table }
-    ensures { result ≡ s_box x }
-{
-    table[x as usize]
+impl SBox {
+    pub(crate) fn new() -> SBox {
+        SBox { values: VALUES }
+    }
+
+    // The S-box at a byte.
+    pub(crate) fn sub(&self, x: u8) -> u8
+        ensures { result ≡ s_box x }
+    {
+        self.values[usize::from(x)]
+    }
 }
 
 // The S-box at 0, 1 and so on, up to 255.
-const SBOX: [u8; 256] = [
+const VALUES: [u8; 256] = [
     0x63, 0x7c, 0x77, 0x7b, 0xf2, 0x6b, 0x6f, 0xc5, 0x30, 0x01, 0x67, 0x2b, 0xfe, 0xd7, 0xab, 0x76,
     0xca, 0x82, 0xc9, 0x7d, 0xfa, 0x59, 0x47, 0xf0, 0xad, 0xd4, 0xa2, 0xaf, 0x9c, 0xa4, 0x72, 0xc0,
     0xb7, 0xfd, 0x93, 0x26, 0x36, 0x3f, 0xf7, 0xcc, 0x34, 0xa5, 0xe5, 0xf1, 0x71, 0xd8, 0x31, 0x15,

@@ -1,17 +1,15 @@
 // The state of the cipher and its round steps.
 ghost use Rattle.std.specs.Prelude.{◌≡◌, ◌+◌, ◌<◌};
-ghost use Rattle.aes.specs.Fips197.{s_box_table, sub_bytes, shift_rows, mix_columns, add_round_key, rcon, next_round_key, round, last_round};
+ghost use Rattle.aes.specs.Fips197.{sub_bytes, shift_rows, mix_columns, add_round_key, rcon, next_round_key, round, last_round};
 ghost use Rattle.aes.specs.StateLayout.{bytes_of};
 
+use crate::sbox::SBox;
 use crate::word::Word;
 
 // A state as its four columns, or a round key as its four words.
 #[derive(Clone, Copy)]
 pub(crate) struct State {
-    pub(crate) w0: Word,
-    pub(crate) w1: Word,
-    pub(crate) w2: Word,
-    pub(crate) w3: Word,
+    pub(crate) columns: [Word; 4],
 }
 
 impl State {
@@ -20,10 +18,12 @@ impl State {
         ensures { bytes_of result ≡ bytes }
     {
         State {
-            w0: Word::load([bytes[0], bytes[1], bytes[2], bytes[3]]),
-            w1: Word::load([bytes[4], bytes[5], bytes[6], bytes[7]]),
-            w2: Word::load([bytes[8], bytes[9], bytes[10], bytes[11]]),
-            w3: Word::load([bytes[12], bytes[13], bytes[14], bytes[15]]),
+            columns: [
+                Word::load([bytes[0], bytes[1], bytes[2], bytes[3]]),
+                Word::load([bytes[4], bytes[5], bytes[6], bytes[7]]),
+                Word::load([bytes[8], bytes[9], bytes[10], bytes[11]]),
+                Word::load([bytes[12], bytes[13], bytes[14], bytes[15]]),
+            ],
         }
     }
 
@@ -31,10 +31,10 @@ impl State {
     pub(crate) fn store(self) -> [u8; 16]
         ensures { result ≡ bytes_of self }
     {
-        let a = self.w0.store();
-        let b = self.w1.store();
-        let c = self.w2.store();
-        let d = self.w3.store();
+        let a = self.columns[0].store();
+        let b = self.columns[1].store();
+        let c = self.columns[2].store();
+        let d = self.columns[3].store();
         [
             a[0], a[1], a[2], a[3], b[0], b[1], b[2], b[3], c[0], c[1], c[2], c[3], d[0], d[1],
             d[2], d[3],
@@ -42,14 +42,10 @@ impl State {
     }
 
     // SubBytes: the S-box at each byte.
-    fn sub_bytes(mut self, table: &[u8; 256]) -> State
-        requires { table.now ≡ s_box_table }
+    fn sub_bytes(mut self, s_box: &SBox) -> State
         ensures { bytes_of result ≡ sub_bytes (bytes_of self) }
     {
-        self.w0 = self.w0.sub_word(table);
-        self.w1 = self.w1.sub_word(table);
-        self.w2 = self.w2.sub_word(table);
-        self.w3 = self.w3.sub_word(table);
+        self.columns = self.columns.map(|w| w.sub_word(s_box));
         self
     }
 
@@ -57,11 +53,13 @@ impl State {
     fn shift_rows(mut self) -> State
         ensures { bytes_of result ≡ shift_rows (bytes_of self) }
     {
-        let s = self;
-        self.w0 = Word::diagonal(s.w0, s.w1, s.w2, s.w3);
-        self.w1 = Word::diagonal(s.w1, s.w2, s.w3, s.w0);
-        self.w2 = Word::diagonal(s.w2, s.w3, s.w0, s.w1);
-        self.w3 = Word::diagonal(s.w3, s.w0, s.w1, s.w2);
+        let [a, b, c, d] = self.columns;
+        self.columns = [
+            Word::diagonal(a, b, c, d),
+            Word::diagonal(b, c, d, a),
+            Word::diagonal(c, d, a, b),
+            Word::diagonal(d, a, b, c),
+        ];
         self
     }
 
@@ -69,10 +67,7 @@ impl State {
     fn mix_columns(mut self) -> State
         ensures { bytes_of result ≡ mix_columns (bytes_of self) }
     {
-        self.w0 = self.w0.mix_column();
-        self.w1 = self.w1.mix_column();
-        self.w2 = self.w2.mix_column();
-        self.w3 = self.w3.mix_column();
+        self.columns = self.columns.map(|w| w.mix_column());
         self
     }
 
@@ -80,10 +75,9 @@ impl State {
     fn add_round_key(mut self, key: State) -> State
         ensures { bytes_of result ≡ add_round_key (bytes_of self) (bytes_of key) }
     {
-        self.w0 = self.w0.plus(key.w0);
-        self.w1 = self.w1.plus(key.w1);
-        self.w2 = self.w2.plus(key.w2);
-        self.w3 = self.w3.plus(key.w3);
+        let [a, b, c, d] = self.columns;
+        let [p, q, r, s] = key.columns;
+        self.columns = [a.plus(p), b.plus(q), c.plus(r), d.plus(s)];
         self
     }
 
@@ -95,40 +89,36 @@ impl State {
     }
 
     // A round before the last. ShiftRows goes before SubBytes, with which it commutes.
-    pub(crate) fn round(mut self, table: &[u8; 256], key: State) -> State
-        requires { table.now ≡ s_box_table }
+    pub(crate) fn round(mut self, s_box: &SBox, key: State) -> State
         ensures { bytes_of result ≡ round (bytes_of self) (bytes_of key) }
     {
         self = self.shift_rows();
-        self = self.sub_bytes(table);
+        self = self.sub_bytes(s_box);
         self = self.mix_columns();
         self.add_round_key(key)
     }
 
     // The last round, which has no MixColumns; its first two steps are exchanged likewise.
-    pub(crate) fn last_round(mut self, table: &[u8; 256], key: State) -> State
-        requires { table.now ≡ s_box_table }
+    pub(crate) fn last_round(mut self, s_box: &SBox, key: State) -> State
         ensures { bytes_of result ≡ last_round (bytes_of self) (bytes_of key) }
     {
         self = self.shift_rows();
-        self = self.sub_bytes(table);
+        self = self.sub_bytes(s_box);
         self.add_round_key(key)
     }
 
     // From the round key of round i to that of round i + 1.
-    pub(crate) fn next_round_key(mut self, table: &[u8; 256], i: usize) -> State
-        requires { (table.now ≡ s_box_table) × (i < 10) }
+    pub(crate) fn next_round_key(mut self, s_box: &SBox, i: usize) -> State
+        requires { i < 10 }
         ensures { bytes_of result ≡ next_round_key (rcon (i + 1)) (bytes_of self) }
     {
-        let temp = self
-            .w3
-            .rot_word()
-            .sub_word(table)
-            .plus(Word::round_constant(i));
-        self.w0 = self.w0.plus(temp);
-        self.w1 = self.w1.plus(self.w0);
-        self.w2 = self.w2.plus(self.w1);
-        self.w3 = self.w3.plus(self.w2);
+        let [a, b, c, d] = self.columns;
+        let temp = d.rot_word().sub_word(s_box).plus(Word::round_constant(i));
+        let a = a.plus(temp);
+        let b = b.plus(a);
+        let c = c.plus(b);
+        let d = d.plus(c);
+        self.columns = [a, b, c, d];
         self
     }
 }

@@ -1,33 +1,14 @@
 // A word of FIPS 197: a column of the state, or a word of the key schedule.
 ghost use Rattle.std.specs.Prelude.{◌≡◌, [], ◌∷◌, map, ◌+◌, ◌<◌};
-ghost use Rattle.gf256.specs.Field.{tabulate, ◌·◌};
-ghost use Rattle.aes.specs.Fips197.{s_box_table, ◌‼◌, sum_word, mix_column, rot_word, sub_word, rcon};
+ghost use Rattle.gf256.specs.Field.{◌·◌};
+ghost use Rattle.aes.specs.Fips197.{◌‼◌, sum_word, mix_column, rot_word, sub_word, rcon};
 ghost use Rattle.aes.specs.StateLayout.{word_of};
 
-use crate::sbox::sub;
+use crate::sbox::SBox;
 use gf256::xtimes;
 
 // The first bytes of the ten round constants.
 const RCON: [u8; 10] = [0x01, 0x02, 0x04, 0x08, 0x10, 0x20, 0x40, 0x80, 0x1b, 0x36];
-
-// A byte as a wider number.
-fn wide(x: u8) -> u32
-    ensures { (result ≡ x) × (result < 256) }
-{
-    x as u32
-}
-
-// Twice each of 4 bytes in GF(2^8).
-fn doubles(bytes: [u8; 4]) -> [u8; 4]
-    ensures { result ≡ tabulate 4 (λ i. 2 · (bytes ‼ i)) }
-{
-    [
-        xtimes(bytes[0]),
-        xtimes(bytes[1]),
-        xtimes(bytes[2]),
-        xtimes(bytes[3]),
-    ]
-}
 
 // Four bytes as one number, that of row 0 lowest.
 #[derive(Clone, Copy)]
@@ -40,12 +21,8 @@ impl Word {
     pub(crate) fn load(bytes: [u8; 4]) -> Word
         ensures { word_of result ≡ bytes }
     {
-        let a = wide(bytes[0]);
-        let b = wide(bytes[1]);
-        let c = wide(bytes[2]);
-        let d = wide(bytes[3]);
         Word {
-            bits: a + 256 * b + 65536 * c + 16777216 * d,
+            bits: u32::from_le_bytes(bytes),
         }
     }
 
@@ -53,13 +30,7 @@ impl Word {
     pub(crate) fn store(self) -> [u8; 4]
         ensures { result ≡ word_of self }
     {
-        let bits = self.bits;
-        [
-            (bits % 256) as u8,
-            (bits / 256 % 256) as u8,
-            (bits / 65536 % 256) as u8,
-            (bits / 16777216 % 256) as u8,
-        ]
+        self.bits.to_le_bytes()
     }
 
     // The round constant of round i + 1, for i below 10.
@@ -83,24 +54,16 @@ impl Word {
     pub(crate) fn rot_word(self) -> Word
         ensures { word_of result ≡ rot_word (word_of self) }
     {
-        let bits = self.bits;
         Word {
-            bits: bits / 256 + bits % 256 * 16777216,
+            bits: self.bits.rotate_right(8),
         }
     }
 
     // SubWord: the S-box at each byte.
-    pub(crate) fn sub_word(self, table: &[u8; 256]) -> Word
-        requires { table.now ≡ s_box_table }
+    pub(crate) fn sub_word(self, s_box: &SBox) -> Word
         ensures { word_of result ≡ sub_word (word_of self) }
     {
-        let bytes = self.store();
-        Word::load([
-            sub(table, bytes[0]),
-            sub(table, bytes[1]),
-            sub(table, bytes[2]),
-            sub(table, bytes[3]),
-        ])
+        Word::load(self.store().map(|x| s_box.sub(x)))
     }
 
     // The word of byte 0 of the first word, byte 1 of the second, and so on.
@@ -118,7 +81,7 @@ impl Word {
     fn doubled(self) -> Word
         ensures { word_of result ≡ map (λ x. 2 · x) (word_of self) }
     {
-        Word::load(doubles(self.store()))
+        Word::load(self.store().map(xtimes))
     }
 
     // A column times the fixed matrix of MixColumns.

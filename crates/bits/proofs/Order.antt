@@ -1,15 +1,14 @@
 -- The order of bit strings, and of packed strings of one length.
-use Prim.Native.Nat.{ℕ, zero, suc, ◌+◌, ◌-◌, ◌*◌, ◌^◌, ◌≤◌, ◌<◌}
+use Prim.Native.Nat.{ℕ, zero, suc, ◌+◌, ◌-◌, ◌*◌, ◌^◌, ◌≤◌, ◌<◌, min}
 use native.Mathlib.Omega.{arith}
 use native.Mathlib.Nat.{suc_inj, suc-ne-zero}
 use mathlib.Core.Path.{◌≡◌, refl, sym, ap, ◌∙◌}
-use mathlib.Core.Logic.{◌⊎◌, inl, inr}
 use mathlib.Core.Bool.{Bool, true, false, ◌&&◌, ◌||◌}
 use mathlib.Core.List.{List, [], ◌∷◌}
-use borrow.Author.Tests.{lt-ltb, le-ltb, eq-eqb, ne_eqb, ltb-true, ltb-false, eqb-true, eqb-false}
+use borrow.Author.Tests.{lt-ltb, le-ltb, eq-eqb, ne_eqb, ltb-true, ltb-false, eqb-true, eqb-false, leb-true, leb-false}
 use lib.ListN.{length, get_or, drop, length-drop, drop_of_length-le}
 use lib.Seq.{drop-cons}
-use lib.Dec.{ltb, eqb}
+use lib.Dec.{ltb, leb, eqb}
 use Rattle.bits.specs.Strings.{Bits, is_before, Before}
 use Rattle.bits.specs.Packing.{packed_length, value, pack_in, pack, bytes_before}
 use Rattle.bits.proofs.Packed.{value_below}
@@ -80,11 +79,18 @@ unfolding bytes_before
 before_nil [] = refl
 before_nil (x ∷ s) = refl
 
--- from the end of one of them on there is nothing to find
-pub before_end : (s q : List ℕ) (i : ℕ) → length s ≤ i ⊎ length q ≤ i → bytes_before (drop i s) (drop i q) ≡ false
+-- from the end of the shorter of them on there is nothing to find
+pub before_end : (s q : List ℕ) (i : ℕ) → min (length s) (length q) ≤ i → bytes_before (drop i s) (drop i q) ≡ false
 unfolding bytes_before
-before_end s q i (inl h) = rw (drop_of_length-le s h)
-before_end s q i (inr h) = rw (drop_of_length-le q h) (before_nil (drop i s))
+before_end s q i h = go (leb (length s) i) refl
+  where
+    go : (d : Bool) → leb (length s) i ≡ d → bytes_before (drop i s) (drop i q) ≡ false
+    go true e =
+        let k : length s ≤ i = leb-true (length s) i e in
+        rw (drop_of_length-le s k)
+    go false e =
+        let k : length q ≤ i = omega (arith, leb-false (length s) i e) in
+        rw (drop_of_length-le q k) (before_nil (drop i s))
 
 module _ (s q : List ℕ) (i : ℕ) (hs : i < length s) (hq : i < length q) where
   before_step : bytes_before (drop i s) (drop i q)

@@ -13,6 +13,7 @@ use borrow.Author.Tests.{eq-eqb, ne_eqb}
 use lib.ListN.{length, get_or, drop, drop_of_length-le}
 use lib.Seq.{get_or-drop, drop-cons, drop-drop, drop-append-le, drop-append-add, drop-nil}
 use lib.Dec.{eqb}
+use Rattle.std.specs.List.{list_all}
 use Rattle.bits.specs.Strings.{Bits}
 use Rattle.bits.specs.Packing.{digits, bits_of, is_zero, spare_zero}
 use Rattle.bits.proofs.Packed.{digits_length, bits_of_length}
@@ -126,20 +127,13 @@ module _ (n : ℕ) (s : List ℕ) (h : n / 8 < length s) where
 
 -- ---- the bytes after it
 
-pub zero_past : (s : List ℕ) (i : ℕ) → length s ≤ i → is_zero (bits_of (drop i s)) ≡ true
+zero_bytes : (s : List ℕ) → ((i : ℕ) → get_or s i 0 < 256) → list_all (λ x. eqb x 0) s ≡ is_zero (bits_of s)
 unfolding bits_of
-zero_past s i h = rw (drop_of_length-le s h)
+zero_bytes [] byte = refl
+zero_bytes (x ∷ s) byte =
+    sym
+    (zero_append (digits 8 x) (bits_of s)
+    ∙ rw (digits_zero 8 x, mod-eq_of_lt (byte 0)) (ap (λ b. eqb x 0 && b) (sym (zero_bytes s (λ i. byte (suc i))))))
 
-module _ (s : List ℕ) (i : ℕ) (h : i < length s) (byte : get_or s i 0 < 256) where
-  zero_step : is_zero (bits_of (drop i s)) ≡ (eqb (get_or s i 0) 0 && is_zero (bits_of (drop (suc i) s)))
-  unfolding bits_of
-  zero_step =
-      ap (λ (l : List ℕ). is_zero (bits_of l)) (drop-cons s i 0 h)
-      ∙ zero_append (digits 8 (get_or s i 0)) (bits_of (drop (suc i) s))
-      ∙ rw (digits_zero 8 (get_or s i 0), mod-eq_of_lt byte)
-
-  pub zero_yes : get_or s i 0 ≡ 0 → is_zero (bits_of (drop i s)) ≡ is_zero (bits_of (drop (suc i) s))
-  zero_yes z = zero_step ∙ rw (eq-eqb (get_or s i 0) 0 z)
-
-  pub zero_no : (get_or s i 0 ≡ 0 → ⊥) → is_zero (bits_of (drop i s)) ≡ false
-  zero_no z = zero_step ∙ rw (ne_eqb (get_or s i 0) 0 z)
+pub zero_rest : (k : ℕ) (s : List ℕ) → ((i : ℕ) → get_or s i 0 < 256) → list_all (λ x. eqb x 0) (drop k s) ≡ is_zero (bits_of (drop k s))
+zero_rest k s byte = zero_bytes (drop k s) (λ i. rw (get_or-drop k s i 0) (byte (k + i)))

@@ -4,7 +4,7 @@ ghost use Rattle.places.specs.Places.{put_at};
 ghost use Rattle.bits.specs.Strings.{◌▹◌};
 ghost use Rattle.bits.specs.Packing.{value, digits, bits_of, pack, unpack};
 
-use places::{copy, wide, within};
+use places::{copy, within};
 
 // The byte that begins with the first `rest` bits of x and then has `bit`; its other bits are zero.
 fn last_byte(x: u8, rest: usize, bit: bool) -> u8
@@ -12,7 +12,7 @@ fn last_byte(x: u8, rest: usize, bit: bool) -> u8
     ensures { result ≡ value 8 (take rest (digits 8 x) ▹ bit) }
 {
     let unit = 256 >> rest;
-    let y = wide(x);
+    let y = u64::from(x);
     let kept = y - y % unit;
     if bit {
         return (kept + unit / 2) as u8;

@@ -7,7 +7,7 @@ ghost use Rattle.std.specs.Prelude.{◌≡◌, false, get_or, drop};
 ghost use Rattle.bits.specs.Packing.{packed_length, bits_of, is_zero, spare_zero, bytes_before};
 
 pub use child::write_child;
-use places::{byte_at, wide};
+use places::byte_at;
 
 // How many bytes n bits take.
 pub fn packed_length(n: usize) -> usize
@@ -27,14 +27,7 @@ pub fn bit_at(s: &[u8], i: usize) -> bool
 fn zero_from(s: &[u8], from: usize) -> bool
     ensures { result ≡ is_zero (bits_of (drop from s.now)) }
 {
-    let mut i = from;
-    while i < s.len() {
-        if s[i] != 0 {
-            return false;
-        }
-        i += 1;
-    }
-    true
+    s.iter().skip(from).all(|x| *x == 0)
 }
 
 // Whether the bits past the n-th are zero.
@@ -45,7 +38,7 @@ pub fn spare_zero(s: &[u8], n: usize) -> bool
     if s.len() <= k {
         return true;
     }
-    if wide(s[k]) % (256 >> (n % 8)) != 0 {
+    if u64::from(s[k]) % (256 >> (n % 8)) != 0 {
         return false;
     }
     zero_from(s, k + 1)
@@ -55,20 +48,13 @@ pub fn spare_zero(s: &[u8], n: usize) -> bool
 pub fn before(a: &[u8], b: &[u8]) -> bool
     ensures { result ≡ bytes_before a.now b.now }
 {
-    let mut i = 0;
-    while i < a.len() {
-        if b.len() <= i {
-            return false;
-        }
-        let x = a[i];
-        let y = b[i];
+    for (x, y) in a.iter().zip(b) {
         if x < y {
             return true;
         }
         if y < x {
             return false;
         }
-        i += 1;
     }
     false
 }

@@ -6,14 +6,19 @@ use mathlib.Core.Path.{◌≡◌, refl, sym, ap, ◌∙◌}
 use mathlib.Core.Bool.{Bool, true, false, not, cond}
 use mathlib.Core.List.{List, [], ◌∷◌, ◌++◌}
 use mathlib.Core.Logic.{◌≢◌, inl, inr}
+use Rattle.std.specs.Prelude.{Result, Ok, Err, IsErrAnd}
 use lib.ListN.{length}
 use lib.Dec.{T, ltb, ltb→lt, lt→ltb}
 use Rattle.places.specs.Places.{overlay}
+use Rattle.places.proofs.Places.{overlay_nil}
 use Rattle.expander.specs.Expander.{is_expander}
 use Rattle.expander.proofs.Chosen.{unnamed, unnamed_test}
 use Rattle.calls.specs.Bounds.{most_bits, threshold_most, threshold_number, most_reports, outside, length_cause, threshold_cause, expander_cause, reports_cause, space_cause}
 use Rattle.calls.specs.Causes.{Cause, cause, number_due, Due}
-use Rattle.calls.specs.Outcome.{Outcome, refused, accepted, judged, Exit, exit, left}
+use Rattle.calls.specs.Outcome.{Outcome, refused, accepted, judged, Exit, exit, answered, left}
+use Rattle.calls.specs.Refusals.{number_of}
+use Rattle.calls.specs.declared.Refusal.{Refusal}
+use Rattle.calls.specs.declared.Refusal.TheVariants.{StringLength, Threshold, Expander, Lengths, TooManyReports, PayloadTooLarge, SpareBits, SharesDiffer, Query, Text, NoSpace, WeightedThreshold, Nodes, NoParent}
 use Rattle.calls.specs.declared.Reply.{Reply}
 use Rattle.calls.proofs.Decisions.{beyond, beyond_test}
 
@@ -151,6 +156,39 @@ module _ {r : Reply} {area : List ℕ} (entry : List ℕ) (o : Outcome) where
 
   pub reply_parts : left r area ≡ exit o entry → (r.number ≡ o.number) × ((r.length ≡ length o.written) × (area ≡ overlay o.written entry))
   reply_parts e = (ap (λ (x : Exit). x.number) e, (ap (λ (x : Exit). x.length) e, ap (λ (x : Exit). x.area) e))
+
+-- ---- what a call returns: a refusal, or how many bytes it wrote
+
+-- a refusal's number is not 0
+pub numbered : (refusal : Refusal) → number_of refusal ≢ 0
+numbered StringLength h = omega (arith, h)
+numbered Threshold h = omega (arith, h)
+numbered Expander h = omega (arith, h)
+numbered Lengths h = omega (arith, h)
+numbered TooManyReports h = omega (arith, h)
+numbered PayloadTooLarge h = omega (arith, h)
+numbered SpareBits h = omega (arith, h)
+numbered SharesDiffer h = omega (arith, h)
+numbered Query h = omega (arith, h)
+numbered Text h = omega (arith, h)
+numbered NoSpace h = omega (arith, h)
+numbered WeightedThreshold h = omega (arith, h)
+numbered Nodes h = omega (arith, h)
+numbered NoParent h = omega (arith, h)
+
+-- what a `?` hands on of a refusal whose number is due is the outcome
+pub refused_with : (cs : List Cause) (refusal : Refusal) → number_of refusal ≡ number_due cs
+    → (r : Result ℕ Refusal) → IsErrAnd r (λ e. e ≡ refusal) → (bytes entry : List ℕ) → answered r entry ≡ exit (judged cs bytes) entry
+refused_with cs refusal h (Ok x) p bytes entry = absurd p
+refused_with cs refusal h (Err e) p bytes entry =
+    let number = ap number_of p ∙ h ∙ sym (judged_due cs bytes) in
+    let nothing = judged_refused cs bytes (λ z. numbered e (number ∙ z)) in
+    rw (number, nothing, overlay_nil entry) refl
+
+-- a success, part by part
+pub accepted_with : (bytes entry : List ℕ) {size : ℕ} {area : List ℕ} → size ≡ length bytes → area ≡ overlay bytes entry
+    → answered (Ok size) area ≡ exit (accepted bytes) entry
+accepted_with bytes entry h k = rw (h, k)
 
 -- facts of the elements of a list, one by one
 infixr 40 ◌&◌

@@ -1,3 +1,4 @@
 pub mod Causes
 pub mod Bounds
+pub mod Refusals
 pub mod Outcome

@@ -1,7 +1,9 @@
 -- What a call that writes into one lent space returns, and what it leaves there: document 01, 'Causes of refusal'.
-use Rattle.std.specs.Prelude.{ℕ, cond, List, [], ◌∷◌, length}
+use Rattle.std.specs.Prelude.{ℕ, cond, List, [], ◌∷◌, length, Result, Ok, Err}
 use Rattle.places.specs.Places.{overlay}
 use Rattle.calls.specs.Causes.{Cause}
+use Rattle.calls.specs.Refusals.{number_of}
+use Rattle.calls.specs.declared.Refusal.{Refusal}
 use Rattle.calls.specs.declared.Reply.{Reply}
 
 -- The number returned and the bytes written from the beginning of the lent space on.
@@ -32,6 +34,11 @@ pub record Exit : Type 0 where
 abbrev pub exit : Outcome → List ℕ → Exit
 exit o entry = record { number = o.number; length = length o.written; area = overlay o.written entry }
 
--- what was returned, and the space as it was left
+-- how many bytes were written, or the refusal, and the space as it was left
+abbrev pub answered : Result ℕ Refusal → List ℕ → Exit
+answered (Ok length) area = record { number = 0; length = length; area = area }
+answered (Err refusal) area = record { number = number_of refusal; length = 0; area = area }
+
+-- the same as C is told
 abbrev pub left : Reply → List ℕ → Exit
 left r area = record { number = r.number; length = r.length; area = area }

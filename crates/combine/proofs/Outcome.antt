@@ -6,6 +6,7 @@ use mathlib.Core.Bool.{Bool, true, false, cond, ◌&&◌, ◌||◌}
 use mathlib.Core.List.{List, [], ◌∷◌}
 use mathlib.Core.Option.{some}
 use borrow.Author.Tests.{eq-eqb, ne_eqb}
+use Rattle.std.specs.Prelude.{Result, Ok, Err, IsErrAnd}
 use lib.ListN.{length}
 use lib.Dec.{ltb}
 use Rattle.bits.specs.Strings.{Bits}
@@ -14,13 +15,15 @@ use Rattle.places.proofs.Places.{overlay_nil}
 use Rattle.calls.specs.Bounds.{most_bits, threshold_most, threshold_number, outside}
 use Rattle.calls.specs.Causes.{Cause, number_due}
 use Rattle.calls.specs.Outcome.{accepted, judged}
-use Rattle.calls.proofs.Judged.{Clear, first_due, second_due, judged_due, judged_refused, judged_second}
+use Rattle.calls.specs.Refusals.{number_of, number_in}
+use Rattle.calls.specs.declared.Refusal.{Refusal}
+use Rattle.calls.specs.declared.Refusal.TheVariants.{NoSpace}
+use Rattle.calls.proofs.Judged.{Clear, numbered, first_due, second_due, judged_due, judged_refused, judged_second}
 use Rattle.query.specs.Query.{is_query, prefix_length, children}
 use Rattle.shares.specs.ShareNumbers.{numbers, all_below}
 use Rattle.shares.proofs.Matching.{not_both, both}
 use Rattle.combine.specs.declared.Combined.{Combined}
-use Rattle.combine.specs.declared.Combined.TheVariants.{Refused}
-use Rattle.combine.specs.Answer.{Answer, next, list, ended, further, answer_bytes, kind, number_of, length_of, kind_of}
+use Rattle.combine.specs.Answer.{Answer, next, list, ended, further, answer_bytes, kind, length_of, kind_of}
 use Rattle.combine.specs.Combine.{wrong_shares, kept_prefixes, combine_answer, combine_bytes, passes_limit, lent_causes, space_causes, combine_causes, combine_outcome, combine_kind, combine_exit, told}
 
 -- ---- the first cause that applies of those of what is lent
@@ -51,27 +54,27 @@ module _ (n : ℕ) (weighted : Bool) (t : ℕ) (q s0 s1 : List ℕ) where
 -- ---- what the call returns, and what it leaves in the space d
 
 module _ (n : ℕ) (weighted : Bool) (t : ℕ) (q s0 s1 : List ℕ) (d : List ℕ) where
-  abbrev pub Told : Combined → List ℕ → Type 0
+  abbrev pub Told : Result Combined Refusal → List ℕ → Type 0
   Told r out =
-      (number_of r ≡ (combine_outcome n weighted t q s0 s1 (length d)).number)
+      (number_in r ≡ (combine_outcome n weighted t q s0 s1 (length d)).number)
       × ((kind_of r ≡ combine_kind n weighted t q s0 s1 (length d))
       × ((length_of r ≡ length (combine_outcome n weighted t q s0 s1 (length d)).written) × (out ≡ overlay (combine_outcome n weighted t q s0 s1 (length d)).written d)))
 
   -- the same as one equation
-  pub told_exit : (r : Combined) (out : List ℕ) → Told r out → told r out ≡ combine_exit n weighted t q s0 s1 d
+  pub told_exit : (r : Result Combined Refusal) (out : List ℕ) → Told r out → told r out ≡ combine_exit n weighted t q s0 s1 d
   unfolding told
   told_exit r out h = rw (h.0, h.1.0, h.1.1.0, h.1.1.1)
 
-  told_refused : (k : ℕ) → number_due (combine_causes n weighted t q s0 s1 (length d)) ≡ k → (k ≡ 0 → ⊥) → Told (Refused k) d
+  told_refused : (refusal : Refusal) → number_of refusal ≡ number_due (combine_causes n weighted t q s0 s1 (length d)) → Told (Err refusal) d
   unfolding combine_outcome combine_kind
-  told_refused k h z =
+  told_refused refusal h =
       let cs = combine_causes n weighted t q s0 s1 (length d) in
       let bytes = combine_bytes n weighted t q s0 s1 in
-      let j : (judged cs bytes).number ≡ k = judged_due cs bytes ∙ h in
-      let w : (judged cs bytes).written ≡ [] = judged_refused cs bytes (λ y. z (sym j ∙ y)) in (
+      let j : (judged cs bytes).number ≡ number_of refusal = judged_due cs bytes ∙ sym h in
+      let w : (judged cs bytes).written ≡ [] = judged_refused cs bytes (λ y. numbered refusal (sym j ∙ y)) in (
         sym j,
         (
-          rw (h, ne_eqb k 0 z),
+          rw (← h, ne_eqb (number_of refusal) 0 (numbered refusal)),
           (sym (ap length w), sym (ap (λ (v : List ℕ). overlay v d) w ∙ overlay_nil d)),
         ),
       )
@@ -80,9 +83,13 @@ module _ (n : ℕ) (weighted : Bool) (t : ℕ) (q s0 s1 : List ℕ) (d : List �
   abbrev last : List Cause
   last = space_causes n weighted t q s0 s1 (length d)
 
-  -- a cause of what is lent
-  pub told_lent : (k : ℕ) → k ≡ number_due (lent_causes n weighted t q s0 s1) → (k ≡ 0 → ⊥) → Told (Refused k) d
-  told_lent k h z = told_refused k (first_due (lent_causes n weighted t q s0 s1) last (λ y. z (h ∙ y)) ∙ sym h) z
+  -- a cause of what is lent, which a `?` hands on
+  pub told_lent : (refusal : Refusal) → number_of refusal ≡ number_due (lent_causes n weighted t q s0 s1)
+      → (r : Result Combined Refusal) → IsErrAnd r (λ e. e ≡ refusal) → Told r d
+  told_lent refusal h (Ok x) p = absurd p
+  told_lent refusal h (Err e) p =
+      let due : number_of e ≡ number_due (lent_causes n weighted t q s0 s1) = ap number_of p ∙ h in
+      told_refused e (due ∙ sym (first_due (lent_causes n weighted t q s0 s1) last (λ y. numbered e (due ∙ y))))
 
   -- no cause of what is lent, and the answer a
   module _ (clear : Clear (lent_causes n weighted t q s0 s1)) (a : Answer) (e : combine_answer n weighted t q s0 s1 ≡ a) where
@@ -93,10 +100,10 @@ module _ (n : ℕ) (weighted : Bool) (t : ℕ) (q s0 s1 : List ℕ) (d : List �
     last_number : number_due (combine_causes n weighted t q s0 s1 (length d)) ≡ cond too_large 11 0
     last_number = second_due (lent_causes n weighted t q s0 s1) last clear ∙ rw e
 
-    pub told_large : too_large ≡ true → Told (Refused 11) d
-    told_large h = told_refused 11 (last_number ∙ rw h) (λ z. omega arith)
+    pub told_large : too_large ≡ true → Told (Err NoSpace) d
+    told_large h = told_refused NoSpace (sym (last_number ∙ rw h))
 
-    pub told_answer : too_large ≡ false → (r : Combined) (out : List ℕ) → number_of r ≡ 0 → kind_of r ≡ some (kind a)
+    pub told_answer : too_large ≡ false → (r : Result Combined Refusal) (out : List ℕ) → number_in r ≡ 0 → kind_of r ≡ some (kind a)
         → length_of r ≡ length (answer_bytes (prefix_length q) a) → out ≡ overlay (answer_bytes (prefix_length q) a) d → Told r out
     unfolding combine_outcome combine_kind
     told_answer h r out number what size space =

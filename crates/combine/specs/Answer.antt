@@ -1,10 +1,11 @@
 -- What combining answers: document 01, 'The search'.
-use Rattle.std.specs.Prelude.{ℕ, cond, List, [], ◌∷◌, eqb}
+use Rattle.std.specs.Prelude.{ℕ, cond, List, [], ◌∷◌, eqb, Result, Ok, Err}
 use Rattle.std.proofs.Math.Option.{Option, none, some}
 use Rattle.bits.specs.Strings.{Bits}
+use Rattle.calls.specs.declared.Refusal.{Refusal}
 use Rattle.query.specs.Query.{packs, query, children}
 use Rattle.combine.specs.declared.Combined.{Combined}
-use Rattle.combine.specs.declared.Combined.TheVariants.{Next, List as Listed, Ended, Refused}
+use Rattle.combine.specs.declared.Combined.TheVariants.{Next, List as Listed, Ended}
 
 -- ---- the answer
 
@@ -42,23 +43,16 @@ kind (next qs) = next_query
 kind (list ss) = heavy_list
 kind ended = search_ended
 
--- the number of what the call returns, 0 unless it is refused
-abbrev pub number_of : Combined → ℕ
-number_of (Next length) = 0
-number_of (Listed length) = 0
-number_of Ended = 0
-number_of (Refused number) = number
-
--- its length
-abbrev pub length_of : Combined → ℕ
-length_of (Next length) = length
-length_of (Listed length) = length
-length_of Ended = 0
-length_of (Refused number) = 0
+-- the length of what the call returns
+abbrev pub length_of : Result Combined Refusal → ℕ
+length_of (Ok (Next length)) = length
+length_of (Ok (Listed length)) = length
+length_of (Ok Ended) = 0
+length_of (Err refusal) = 0
 
 -- its kind; a refusal has none of the three
-abbrev pub kind_of : Combined → Option Kind
-kind_of (Next length) = some next_query
-kind_of (Listed length) = some heavy_list
-kind_of Ended = some search_ended
-kind_of (Refused number) = none
+abbrev pub kind_of : Result Combined Refusal → Option Kind
+kind_of (Ok (Next length)) = some next_query
+kind_of (Ok (Listed length)) = some heavy_list
+kind_of (Ok Ended) = some search_ended
+kind_of (Err refusal) = none

@@ -1,16 +1,18 @@
 -- The call `combine`: document 01, 'The search' and 'Causes of refusal', and document 02, [1].
-use Rattle.std.specs.Prelude.{ℕ, ◌*◌, ◌<◌, Bool, false, cond, not, ◌&&◌, ◌||◌, List, [], ◌∷◌, ◌++◌, ◌≢◌, ◌⊎◌, length, ltb, eqb}
+use Rattle.std.specs.Prelude.{ℕ, ◌*◌, ◌<◌, Bool, false, cond, not, ◌&&◌, ◌||◌, List, [], ◌∷◌, ◌++◌, ◌≢◌, ◌⊎◌, length, ltb, eqb, Result}
 use Rattle.std.proofs.Math.Option.{Option, none, some}
 use Rattle.places.specs.Places.{overlay}
 use Rattle.bits.specs.Strings.{Bits}
 use Rattle.calls.specs.Bounds.{length_cause, threshold_cause}
 use Rattle.calls.specs.Causes.{Cause, cause, number_due}
+use Rattle.calls.specs.Refusals.{number_in}
+use Rattle.calls.specs.declared.Refusal.{Refusal}
 use Rattle.calls.specs.Outcome.{Outcome, judged}
 use Rattle.group.specs.Modular.{field}
 use Rattle.kept.specs.Kept.{reaches_as, kept}
 use Rattle.query.specs.Query.{limit, IsQuery, is_query, prefix_length, prefix_count, prefixes_of}
 use Rattle.shares.specs.ShareNumbers.{numbers, added, Unmatched, unmatched, numbers_cause}
-use Rattle.combine.specs.Answer.{Answer, next, list, ended, answer_at, answer_bytes, Kind, kind, number_of, length_of, kind_of}
+use Rattle.combine.specs.Answer.{Answer, next, list, ended, answer_at, answer_bytes, Kind, kind, length_of, kind_of}
 use Rattle.combine.specs.declared.Combined.{Combined}
 
 -- Two lent shares have the wrong length: their lengths differ or are no multiple of 8, or the query passes 9 and its count is another.
@@ -97,5 +99,5 @@ combine_exit n weighted t query share0 share1 area =
     record { number = o.number; kind = combine_kind n weighted t query share0 share1 (length area); length = length o.written; area = overlay o.written area }
 
 -- what was returned, and the space as it was left
-unfoldable pub told : Combined → List ℕ → CombineExit
-told r area = record { number = number_of r; kind = kind_of r; length = length_of r; area = area }
+unfoldable pub told : Result Combined Refusal → List ℕ → CombineExit
+told r area = record { number = number_in r; kind = kind_of r; length = length_of r; area = area }

@@ -4,23 +4,22 @@
 ghost use Rattle.std.specs.Prelude.{◌≡◌};
 ghost use Rattle.combine.specs.Combine.{combine_exit, told};
 
-use crate::checks::first_cause;
-use crate::totals::count_kept;
-use crate::writing::write_kept;
+use crate::checks::check;
+use crate::totals::Round;
 use bits::packed_length;
+use calls::Refusal;
 use kept::Rule;
 
 mod checks;
 mod totals;
 mod writing;
 
-// What combining answers: the next query or the list, with its length in bytes; the end of the search; or the number of the cause that refused it.
-#[derive(Clone, Copy)]
+// What combining answers: the next query or the list, with its length in bytes; or the end of the search.
+#[derive(Clone, Copy, Debug, PartialEq, Eq)]
 pub enum Combined {
     Next(u64),
     List(u64),
     Ended,
-    Refused(u64),
 }
 
 // Writes the next query, or at length n the list, for the prefixes whose total, read as a signed number where the
@@ -33,36 +32,38 @@ pub fn combine(
     share0: &[u8],
     share1: &[u8],
     out: &mut [u8],
-) -> Combined
+) -> Result<Combined, Refusal>
     ensures { told result out.new ≡ combine_exit n weighted t query.now share0.now share1.now out.old }
 {
-    let number = first_cause(n, weighted, t, query, share0, share1);
-    if number != 0 {
-        return Combined::Refused(number);
-    }
+    check(n, weighted, t, query, share0, share1)?;
+    let round = Round {
+        rule: Rule { t, weighted },
+        query,
+        share0,
+        share1,
+    };
     let len = query::prefix_length(query);
     let longer = len + 1;
-    let rule = Rule { t, weighted };
-    let kept = count_kept(rule, share0, share1);
+    let kept = round.count_kept();
     if len as u64 == n {
         let list_size = kept * packed_length(len);
         if out.len() < list_size {
-            return Combined::Refused(11);
+            return Err(Refusal::NoSpace);
         }
-        write_kept(true, rule, query, share0, share1, out, 0);
-        return Combined::List(list_size as u64);
+        round.write_kept(true, out, 0);
+        return Ok(Combined::List(list_size as u64));
     }
     if kept < 1 {
-        return Combined::Ended;
+        return Ok(Combined::Ended);
     }
     if 65535 < kept {
-        return Combined::Refused(11);
+        return Err(Refusal::NoSpace);
     }
     let next_size = 6 + 2 * kept * packed_length(longer);
     if out.len() < next_size {
-        return Combined::Refused(11);
+        return Err(Refusal::NoSpace);
     }
     query::write_fields(out, 0, len as u64, 2 * kept as u64);
-    write_kept(false, rule, query, share0, share1, out, 6);
-    Combined::Next(next_size as u64)
+    round.write_kept(false, out, 6);
+    Ok(Combined::Next(next_size as u64))
 }

@@ -1,35 +1,42 @@
 // Totals, and which prefixes are kept.
 ghost use Rattle.std.specs.Prelude.{◌≡◌, ◌*◌, ◌≤◌, length};
 ghost use Rattle.places.specs.Lists.{how_many};
-ghost use Rattle.numbers.specs.Numbers.{from_little};
-ghost use Rattle.places.specs.Places.{window};
-ghost use Rattle.group.specs.Modular.{field};
 ghost use Rattle.kept.specs.Kept.{reaches_by};
+ghost use Rattle.shares.proofs.Numbers.{added_at};
 ghost use Rattle.combine.specs.Combine.{share_totals};
 
 use kept::Rule;
 
-// Whether the prefix whose total stands at place `at` is kept.
-pub(crate) fn is_kept(rule: Rule, share0: &[u8], share1: &[u8], at: usize) -> bool
-    ensures { result ≡ reaches_by rule (field.add (from_little (window 8 at share0.now)) (from_little (window 8 at share1.now))) }
-{
-    kept::reaches(rule, shares::sum_at(share0, share1, at))
+// A query with two servers' shares for it, and the rule by which a prefix is kept.
+#[derive(Clone, Copy)]
+pub(crate) struct Round<'a> {
+    pub(crate) rule: Rule,
+    pub(crate) query: &'a [u8],
+    pub(crate) share0: &'a [u8],
+    pub(crate) share1: &'a [u8],
 }
 
-// How many prefixes are kept.
-pub(crate) fn count_kept(rule: Rule, share0: &[u8], share1: &[u8]) -> usize
-    requires { length share0.now ≡ length share1.now }
-    ensures { (result ≡ how_many (reaches_by rule) (share_totals share0.now share1.now)) × (8 * result ≤ length share0.now) }
-{
-    let mut left = share0.len() / 8;
-    let mut place = 0;
-    let mut count = 0;
-    while 0 < left {
-        if is_kept(rule, share0, share1, place) {
-            count += 1;
-        }
-        place += 8;
-        left -= 1;
+impl Round<'_> {
+    // Whether prefix i of the query is kept.
+    pub(crate) fn is_kept(self, i: usize) -> bool
+        requires { 8 * i ≤ length self.share0.now }
+        ensures { result ≡ reaches_by self.entry.rule (added_at self.entry.share0.now self.entry.share1.now (8 * i)) }
+    {
+        kept::reaches(self.rule, shares::sum_at(self.share0, self.share1, 8 * i))
     }
-    count
+
+    // How many prefixes are kept.
+    pub(crate) fn count_kept(self) -> usize
+        requires { length self.share0.now ≡ length self.share1.now }
+        ensures { (result ≡ how_many (reaches_by self.entry.rule) (share_totals self.entry.share0.now self.entry.share1.now))
+            × (8 * result ≤ length self.entry.share0.now) }
+    {
+        let mut count = 0;
+        for i in 0..self.share0.len() / 8 {
+            if self.is_kept(i) {
+                count += 1;
+            }
+        }
+        count
+    }
 }

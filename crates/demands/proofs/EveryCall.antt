@@ -1,4 +1,6 @@
 -- Demand 1 holds of every call.
+use Rattle.expander.specs.declared.Expander.{Expander}
+use Rattle.std.specs.Prelude.{Option, Some, None}
 use Prim.Native.Nat.{ℕ, ◌≤◌, ◌<◌}
 use native.Mathlib.Omega.{arith}
 use mathlib.Core.Path.{◌≡◌, refl, ap, ◌∙◌}
@@ -18,8 +20,6 @@ use Rattle.calls.specs.Causes.{Cause, Due}
 use Rattle.calls.specs.Outcome.{Outcome, judged}
 use Rattle.calls.proofs.Judged.{due_unique, judged_refused, judged_accepted, judged_clear, ◌&◌}
 use Rattle.expander.specs.Expander.{block_of, choice_of, under}
-use Rattle.expander.specs.declared.Choice.{Choice}
-use Rattle.expander.specs.declared.Choice.TheVariants.{Known, Unknown}
 use Rattle.expander.proofs.Sized.{block_length}
 use Rattle.combine.specs.Answer.{Kind}
 use Rattle.search.specs.Search.{Lent, record_bytes, list_bytes, search_number, record_length, list_length, record_after, list_after}
@@ -73,9 +73,9 @@ untouched out h = (h, ap (λ (bytes : List ℕ). overlay bytes out) h ∙ overla
 at_most : (e : ℕ) (seed : List ℕ) (j : ℕ) → length (under (choice_of e) (λ x. block_of x seed j)) ≤ 16
 at_most e seed j = go (choice_of e)
   where
-    go : (c : Choice) → length (under c (λ x. block_of x seed j)) ≤ 16
-    go (Known x) = omega (arith, block_length x seed j)
-    go Unknown = omega arith
+    go : (c : Option Expander) → length (under c (λ x. block_of x seed j)) ≤ 16
+    go (Some x) = omega (arith, block_length x seed j)
+    go None = omega arith
 
 block_kept : (l : BlockLent) → Kept (causes (one_block l)) (result (one_block l))
 unfolding block_outcome

@@ -1,4 +1,5 @@
 -- Demand 2 holds.
+use Rattle.std.specs.Prelude.{Some}
 use Prim.Native.Nat.{ℕ, ◌*◌, ◌≤◌, ◌<◌}
 use native.Mathlib.Omega.{arith}
 use mathlib.Core.Path.{◌≡◌, refl, sym, ap, subst, ◌∙◌}
@@ -14,7 +15,6 @@ use Rattle.calls.specs.Outcome.{accepted}
 use Rattle.expander.specs.Expander.{choice_of, is_expander}
 use Rattle.expander.specs.declared.Expander.{Expander}
 use Rattle.expander.specs.declared.Expander.TheVariants.{Aes, Classroom}
-use Rattle.expander.specs.declared.Choice.TheVariants.{Known}
 use Rattle.weights.specs.Weights.{EveryOne}
 use Rattle.query.specs.Query.{IsQuery, prefix_count, prefixes_of}
 use Rattle.query.proofs.Queries.{query_passes}
@@ -44,7 +44,7 @@ use Rattle.demands.specs.Demands.{TheHeavyStrings, TheWeightedStrings, Demand2}
 
 -- ---- expanders by their numbers
 
-chosen : (e : Expander) → choice_of (expander_number e) ≡ Known e
+chosen : (e : Expander) → choice_of (expander_number e) ≡ Some e
 chosen Aes = refl
 chosen Classroom = refl
 
@@ -55,7 +55,7 @@ known Classroom = refl
 -- ---- a server's share
 
 module _ (s : Lent) (xs : List Bits) (ws : List ℤ) (e : Expander) (honest : Honest s xs ws) (ready : Servable s xs e) where
-  names : choice_of s.expander ≡ Known e
+  names : choice_of s.expander ≡ Some e
   names = ap choice_of ready.named ∙ chosen e
 
   -- what holds at every prefix of at most n bits holds at those of a query

@@ -1,5 +1,6 @@
 -- The user's three demands, sentence by sentence, as three types; `demand_1`, `demand_2` and `demand_3` in the crate's proofs are their proofs.
 -- Their calls stand in `Calls`, their keys and searches in `Words`; every other word is defined where it is brought in from.
+use Rattle.std.specs.Prelude.{Some}
 use Rattle.std.specs.Prelude.{ℕ, ◌+◌, ◌*◌, ◌/◌, ◌%◌, ◌≤◌, ◌<◌, ◌≡◌, Bool, true, false, cond, ◌&&◌, List, [], ◌∷◌, ◌++◌, ◌≢◌, ◌↔◌, length, take, drop, replicate, eqb, ℤ, ◌+ℤ◌}
 use Rattle.std.proofs.Math.Option.{none}
 use Rattle.places.specs.Lists.{◌∈◌, All}
@@ -12,7 +13,6 @@ use Rattle.calls.specs.Causes.{Due}
 use Rattle.calls.specs.Outcome.{accepted}
 use Rattle.expander.specs.Expander.{choice_of}
 use Rattle.expander.specs.declared.Expander.{Expander}
-use Rattle.expander.specs.declared.Choice.TheVariants.{Known}
 use Rattle.point.specs.Node.{Node}
 use Rattle.point.specs.PublicShare.{public_share_length}
 use Rattle.query.specs.Query.{packs, IsQuery, prefix_count, prefixes_of, children}
@@ -94,7 +94,7 @@ Demand2 =
     → served s b query room ≡ accepted (totals (point_sum s xs ws e b) (prefixes_of query)))
     -- Document 02, [2]: 'keep, in a lent list of nodes, the seed and control bit for each report at each prefix of the last query'; 'Nodes stand report by
     -- report, prefixes in query order.'
-    × ((s : Session) (e : Expander) (last : List ℕ) (nodes : List Node) → choice_of s.expander ≡ Known e → Reached s last nodes
+    × ((s : Session) (e : Expander) (last : List ℕ) (nodes : List Node) → choice_of s.expander ≡ Some e → Reached s last nodes
     → let R = share_count s.n s.shares in
     take (R * length (last_prefixes last)) nodes ≡ report_by_report R (walked_node s e) (last_prefixes last))
     -- Document 02, [2]: 'Provided reports, expander and server stay the same throughout, the list began at the roots, and each later call gets it as the

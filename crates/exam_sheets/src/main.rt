@@ -3,7 +3,7 @@
 
 use std::io::Write;
 use std::{env, fs, io};
-use streams::read_text;
+use streams::{Cut, read_text};
 
 // Writes the number for an exam text, and the answer behind it.
 fn show<W: Write>(text: &[u8], printed: &mut W) -> io::Result<()> {
@@ -23,9 +23,11 @@ fn answer_file<W: Write>(rt: &HostRuntime, path: &str, printed: &mut W) -> io::R
         }
     };
     let mut text = [0u8; 4097];
-    let input = read_text(&mut file, &mut text);
+    let length = match read_text(&mut file, &mut text) {
+        Ok(length) | Err(Cut { length }) => length,
+    };
     write!(printed, "{path} ")?;
-    show(&text[..input.length], printed)
+    show(&text[..length], printed)
 }
 
 fn main(rt: HostRuntime) -> io::Result<()> {

@@ -1,11 +1,9 @@
 -- Expanders: block j of a seed, document 01, 'The group and the expanders'.
-use Rattle.std.specs.Prelude.{ℕ, ◌+◌, ◌%◌, ◌^◌, Bool, cond, ◌||◌, List, [], ◌∷◌, ◌++◌, take, drop, ◌==◌, bit_xor}
+use Rattle.std.specs.Prelude.{ℕ, ◌+◌, ◌%◌, ◌^◌, Bool, cond, ◌||◌, List, [], ◌∷◌, ◌++◌, take, drop, ◌==◌, bit_xor, Option, Some, None}
 use Rattle.numbers.specs.Numbers.{little, from_little, big}
 use Rattle.aes.specs.Fips197.{cipher}
 use Rattle.expander.specs.declared.Expander.{Expander}
 use Rattle.expander.specs.declared.Expander.TheVariants.{Aes, Classroom}
-use Rattle.expander.specs.declared.Choice.{Choice}
-use Rattle.expander.specs.declared.Choice.TheVariants.{Known, Unknown}
 
 -- expander 1: AES-128 with the seed as key, applied to j as a 16-byte big-endian number
 unfoldable pub aes_block : List ℕ → ℕ → List ℕ
@@ -31,13 +29,13 @@ abbrev pub is_expander : ℕ → Bool
 is_expander e = e == 1 || e == 2
 
 -- the expander that a number names
-abbrev pub choice_of : ℕ → Choice
-choice_of e = cond (e == 1) (Known Aes) (cond (e == 2) (Known Classroom) Unknown)
+abbrev pub choice_of : ℕ → Option Expander
+choice_of e = cond (e == 1) (Some Aes) (cond (e == 2) (Some Classroom) None)
 
 -- what is written under the expander that was chosen; without one, nothing
-abbrev pub under : {A : Type 0} → Choice → (Expander → List A) → List A
-under (Known e) f = f e
-under Unknown f = []
+abbrev pub under : {A : Type 0} → Option Expander → (Expander → List A) → List A
+under (Some e) f = f e
+under None f = []
 
 -- two seeds of one length, XORed byte by byte
 unfoldable pub xor_bytes : List ℕ → List ℕ → List ℕ

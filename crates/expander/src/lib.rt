@@ -1,55 +1,53 @@
 // Expanders: block j of a seed of 16 bytes, and the XOR of two seeds.
 #![tactic(auto)]
 
-ghost use Rattle.std.specs.Prelude.{◌≡◌, ◌^◌, ◌++◌};
+ghost use Rattle.std.specs.Prelude.{◌≡◌, ◌^◌, ◌++◌, MatchResult, Some, None};
 ghost use Rattle.numbers.specs.Numbers.{big, little};
 ghost use Rattle.expander.specs.Expander.{block_of, classroom_block, is_expander, choice_of, xor_bytes};
 
 use numbers::{read_le8, write_be8, write_le8};
+use std::error::Error;
+use std::fmt;
 use std::num::wrapping_add_u64;
 
 // Expander 1 is AES-128; expander 2, for the classroom, hides nothing.
-#[derive(Clone, Copy)]
+#[derive(Clone, Copy, Debug, PartialEq, Eq)]
 pub enum Expander {
     Aes,
     Classroom,
 }
 
-// What a number names.
-#[derive(Clone, Copy)]
-pub enum Choice {
-    Known(Expander),
-    Unknown,
+// A number that names no expander.
+#[derive(Clone, Copy, Debug, PartialEq, Eq)]
+pub struct UnknownExpander;
+
+impl TryFrom<u64> for Expander {
+    type Error = UnknownExpander;
+
+    ghost try_from_gives = { λ number r. MatchResult r (λ e. choice_of number ≡ Some e) (λ _. choice_of number ≡ None) };
+
+    fn try_from(number: u64) -> Result<Expander, UnknownExpander> {
+        match number {
+            1 => Ok(Expander::Aes),
+            2 => Ok(Expander::Classroom),
+            _ => Err(UnknownExpander),
+        }
+    }
 }
 
-// Two blocks of one seed.
-#[derive(Clone, Copy)]
-pub struct Blocks {
-    pub first: [u8; 16],
-    pub second: [u8; 16],
+impl fmt::Display for UnknownExpander {
+    fn fmt<W: fmt::Write>(&self, f: &mut fmt::Formatter<W>) -> fmt::Result {
+        write!(f, "no such expander")
+    }
 }
+
+impl Error for UnknownExpander {}
 
 // Whether a number names an expander.
 pub fn is_expander(number: u64) -> bool
     ensures { result ≡ is_expander number }
 {
-    if number == 1 {
-        return true;
-    }
-    number == 2
-}
-
-// The expander that a number names.
-pub fn choose(number: u64) -> Choice
-    ensures { result ≡ choice_of number }
-{
-    if number == 1 {
-        return Choice::Known(Expander::Aes);
-    }
-    if number == 2 {
-        return Choice::Known(Expander::Classroom);
-    }
-    Choice::Unknown
+    number == 1 || number == 2
 }
 
 // j as a 16-byte big-endian number.
@@ -93,21 +91,12 @@ pub fn block(e: Expander, seed: [u8; 16], j: u64) -> [u8; 16]
 }
 
 // Blocks i and j of a seed.
-pub fn two_blocks(e: Expander, seed: [u8; 16], i: u64, j: u64) -> Blocks
-    ensures { (result.first ≡ block_of e seed i) × (result.second ≡ block_of e seed j) }
+pub fn two_blocks(e: Expander, seed: [u8; 16], i: u64, j: u64) -> ([u8; 16], [u8; 16])
+    ensures { (result.0 ≡ block_of e seed i) × (result.1 ≡ block_of e seed j) }
 {
     match e {
-        Expander::Aes => {
-            let pair = aes::encrypt_two(seed, counter(i), counter(j));
-            let first = pair.first;
-            let second = pair.second;
-            Blocks { first, second }
-        }
-        Expander::Classroom => {
-            let first = classroom(seed, i);
-            let second = classroom(seed, j);
-            Blocks { first, second }
-        }
+        Expander::Aes => aes::encrypt_two(seed, counter(i), counter(j)),
+        Expander::Classroom => (classroom(seed, i), classroom(seed, j)),
     }
 }
 

@@ -1,4 +1,5 @@
 -- The number of a search of honest reports: no cause before 11 applies, and 11 does not where there is space.
+use Rattle.std.specs.Prelude.{Some}
 use mathlib.Core.Path.{◌≡◌, refl, sym, ap, ap₂, ◌∙◌}
 use mathlib.Core.Bool.{Bool, true, false, cond, not, ◌||◌}
 use mathlib.Core.List.{List}
@@ -14,7 +15,6 @@ use Rattle.calls.specs.Bounds.{most_reports, threshold_most}
 use Rattle.calls.proofs.Decisions.{neither_test, in_bounds}
 use Rattle.expander.specs.Expander.{choice_of, is_expander}
 use Rattle.expander.specs.declared.Expander.{Expander}
-use Rattle.expander.specs.declared.Choice.TheVariants.{Known}
 use Rattle.kept.specs.Kept.{reaches_as}
 use Rattle.tree.specs.Cut.{honest_record}
 use Rattle.tree.specs.SearchRule.{is_kept, search_list, search_fits}
@@ -40,7 +40,7 @@ module _ (s : Lent) (xs : List Bits) (ws : List ℤ) (honest : Honest s xs ws) (
   e : Expander
   e = (named_expander s.expander known).0
 
-  named : choice_of s.expander ≡ Known e
+  named : choice_of s.expander ≡ Some e
   unfolding e
   named = (named_expander s.expander known).1
 

@@ -1,5 +1,6 @@
 -- The totals of an honest search are what the holders' weights add to; where every weight is one, they are the numbers of strings that have the
 -- prefix, and record and list are those of the strings.
+use Rattle.std.specs.Prelude.{Some}
 use mathlib.Core.Path.{◌≡◌, refl, sym, ap, ap₂, ◌∙◌}
 use mathlib.Core.Bool.{Bool, true, false}
 use mathlib.Core.List.{List}
@@ -12,7 +13,6 @@ use lib.Signed.{le_z}
 use Rattle.bits.specs.Strings.{Bits, count}
 use Rattle.expander.specs.Expander.{choice_of}
 use Rattle.expander.specs.declared.Expander.{Expander}
-use Rattle.expander.specs.declared.Choice.TheVariants.{Known}
 use Rattle.group.specs.Modular.{p, modulus}
 use Rattle.signed.specs.SignedReading.{embed, signed_in}
 use Rattle.kept.specs.Kept.{reaches, reaches_as}
@@ -41,7 +41,7 @@ pub reports_number : (s : Lent) (xs : List Bits) (ws : List ℤ) → Honest s xs
 reports_number s xs ws honest = omega (arith, honest.seeds0.size)
 
 -- An honest search for strings of 1 to 256 bits under a known expander.
-module _ (s : Lent) (xs : List Bits) (ws : List ℤ) (honest : Honest s xs ws) (e : Expander) (named : choice_of s.expander ≡ Known e)
+module _ (s : Lent) (xs : List Bits) (ws : List ℤ) (honest : Honest s xs ws) (e : Expander) (named : choice_of s.expander ≡ Some e)
     (from : 1 ≤ s.n) (to : s.n ≤ 256) where
   -- Each server's sum over what it is lent is that of the reports.
   sum0 : (q : Bits) → server_sum e s.n false s.seeds0 s.shares0 all_count (bit_of q) (length q) ≡ sum_at e s.n (reports_of s xs ws) false q

@@ -1,4 +1,5 @@
 -- Demand 2: keys and shares, what combining writes, and what the list of an accepted search holds.
+use Rattle.std.specs.Prelude.{Some}
 use mathlib.Core.Path.{◌≡◌, refl, sym, ap, ap₂, ◌∙◌}
 use mathlib.Core.Logic.{◌↔◌}
 use mathlib.Core.Bool.{Bool, true, false, cond}
@@ -16,7 +17,6 @@ use Rattle.calls.specs.Bounds.{threshold_most}
 use Rattle.calls.specs.Outcome.{Outcome, accepted}
 use Rattle.expander.specs.Expander.{choice_of, is_expander}
 use Rattle.expander.specs.declared.Expander.{Expander}
-use Rattle.expander.specs.declared.Choice.TheVariants.{Known}
 use Rattle.group.specs.Modular.{modulus, field}
 use Rattle.signed.specs.SignedReading.{embed}
 use Rattle.signed.proofs.Embedding.{embed_below}
@@ -60,7 +60,7 @@ use Rattle.honest.proofs.Making.{made_honest}
 
 -- For a string of 1 to 256 bits, root seeds of 16 bytes, an expander's number (1 names Aes and 2 Classroom), a weight and room enough the key maker
 -- succeeds and writes the public share of the point function's correction words for that string and the weight as a group number.
-pub key_made : (e : Expander) (expander : ℕ) → choice_of expander ≡ Known e → (w : ℤ) (x : Bits) → 1 ≤ length x → length x ≤ 256
+pub key_made : (e : Expander) (expander : ℕ) → choice_of expander ≡ Some e → (w : ℤ) (x : Bits) → 1 ≤ length x → length x ≤ 256
     → (seed0 seed1 : List ℕ) → Bytes 16 seed0 → Bytes 16 seed1 → (room : ℕ) → public_share_length (length x) ≤ room
     → key_outcome (length x) expander w (pack x) seed0 seed1 room
     ≡ accepted (public_share (length x) (key_correction (scheme e) (embed modulus w) (bit_of x) seed0 seed1))
@@ -78,7 +78,7 @@ key_correct e w x seed0 seed1 sized0 sized1 q least fits =
 
 -- For honest reports and an expander's number (1 names Aes and 2 Classroom) each server's share of a report is the point function's, with the
 -- correction words of that report's key, and each server's sum is the sum of these shares over all reports.
-pub shares_made : (s : Lent) (xs : List Bits) (ws : List ℤ) → Honest s xs ws → 1 ≤ s.n → s.n ≤ 256 → (e : Expander) → choice_of s.expander ≡ Known e
+pub shares_made : (s : Lent) (xs : List Bits) (ws : List ℤ) → Honest s xs ws → 1 ≤ s.n → s.n ≤ 256 → (e : Expander) → choice_of s.expander ≡ Some e
     → (q : Bits) → length q ≤ s.n
     → let words : ℕ → ℕ → Correction ℕ = λ i. key_correction (scheme e) (embed modulus (get_or ws i (pos 0))) (bit_of (get_or xs i [])) (seed_at s.seeds0 i) (seed_at s.seeds1 i) in
     let share0 : ℕ → ℕ = λ i. share_at (scheme e) (words i) (seed_at s.seeds0 i) false q in
@@ -98,7 +98,7 @@ shares_made s xs ws honest from to e named q fits = (
 -- For honest reports, an expander's number (1 names Aes and 2 Classroom) and a query both servers succeed, and prefix by prefix of the query what
 -- they write adds to what the weights of its holders add to, as a group number.
 pub shares_add : (s : Lent) (xs : List Bits) (ws : List ℤ) → Honest s xs ws → 1 ≤ s.n → s.n ≤ 256 → length xs ≤ 65535
-    → (e : Expander) → choice_of s.expander ≡ Known e → (query : List ℕ) → IsQuery s.n query
+    → (e : Expander) → choice_of s.expander ≡ Some e → (query : List ℕ) → IsQuery s.n query
     → (room0 room1 : ℕ) → 8 * prefix_count query ≤ room0 → 8 * prefix_count query ≤ room1
     → let sum0 : Bits → ℕ = λ q. server_sum e s.n false s.seeds0 s.shares0 all_count (bit_of q) (length q) in
     let sum1 : Bits → ℕ = λ q. server_sum e s.n true s.seeds1 s.shares1 all_count (bit_of q) (length q) in

@@ -1,4 +1,5 @@
 -- The key maker's outcome for an honest report.
+use Rattle.std.specs.Prelude.{Some}
 use mathlib.Core.Path.{◌≡◌, sym, ap, ap₂, ◌∙◌}
 use mathlib.Core.Bool.{true}
 use mathlib.Core.List.{List}
@@ -13,7 +14,6 @@ use Rattle.bits.proofs.Packed.{unpack_pack}
 use Rattle.calls.specs.Outcome.{accepted}
 use Rattle.expander.specs.Expander.{choice_of}
 use Rattle.expander.specs.declared.Expander.{Expander}
-use Rattle.expander.specs.declared.Choice.TheVariants.{Known}
 use Rattle.group.specs.Modular.{p, modulus}
 use Rattle.signed.specs.SignedReading.{embed}
 use Rattle.signed.proofs.Embedding.{embed_below}
@@ -43,7 +43,7 @@ module _ (e : Expander) (n : ℕ) (r : Report ℕ) (made : MadeReport n r) where
   key_bytes_lem w weighs = ap₂ (λ (x : ℕ) (s : Bits). public_share n (key_correction (scheme e) x (bit_of s) r.seed0 r.seed1)) (sym weighs) string_read
 
   -- For a string of 1 to 256 bits, seeds of 16 bytes, the report's weight and room enough, the key maker succeeds and writes the report's public share.
-  pub key_accepted : (w : ℤ) → r.weight ≡ embed modulus w → (number : ℕ) → choice_of number ≡ Known e → 1 ≤ n → n ≤ 256
+  pub key_accepted : (w : ℤ) → r.weight ≡ embed modulus w → (number : ℕ) → choice_of number ≡ Some e → 1 ≤ n → n ≤ 256
       → (room : ℕ) → public_share_length n ≤ room → key_outcome n number w (pack r.string) r.seed0 r.seed1 room ≡ accepted (report_public_share (scheme e) n r)
   key_accepted w weighs number named from to room fits =
       key_made n number e named w r.string r.seed0 r.seed1 made.bits made.sized0 made.sized1 from to room fits

@@ -1,4 +1,5 @@
 -- Strings, their weights and root seeds, with the public shares that the key maker gives for them, are honest.
+use Rattle.std.specs.Prelude.{Some}
 use mathlib.Core.Path.{◌≡◌, sym, ap, ◌∙◌}
 use mathlib.Core.Bool.{false}
 use mathlib.Core.List.{List, []}
@@ -11,7 +12,6 @@ use Rattle.places.specs.Places.{Bytes}
 use Rattle.calls.specs.Outcome.{Outcome, accepted}
 use Rattle.expander.specs.Expander.{choice_of}
 use Rattle.expander.specs.declared.Expander.{Expander}
-use Rattle.expander.specs.declared.Choice.TheVariants.{Known}
 use Rattle.point.specs.PublicShare.{joined, public_share_length}
 use Rattle.point.proofs.Joined.{joined_length, joined_at}
 use Rattle.query.specs.Query.{OfLength}
@@ -23,7 +23,7 @@ use Rattle.honest.proofs.Keys.{key_passes}
 use Rattle.honest.proofs.Reports.{report_at, report_made, key_of}
 
 module _ (s : Lent) (xs : List Bits) (ws : List ℤ) (bits : OfLength s.n xs) (sized0 : Bytes (16 * length xs) s.seeds0) (sized1 : Bytes (16 * length xs) s.seeds1)
-    (e : Expander) (named : choice_of s.expander ≡ Known e) (from : 1 ≤ s.n) (to : s.n ≤ 256) where
+    (e : Expander) (named : choice_of s.expander ≡ Some e) (from : 1 ≤ s.n) (to : s.n ≤ 256) where
   -- what the key maker writes for report i
   abbrev pub made_at : ℕ → List ℕ
   made_at i = (key_at s (get_or xs i []) (get_or ws i (pos 0)) i).written

@@ -1,4 +1,5 @@
 -- The reports of an honest search as the theory has them, that what is lent is what they are lent, and each server's sum.
+use Rattle.std.specs.Prelude.{Some}
 use mathlib.Core.Path.{◌≡◌, refl, sym, ap, ap₂, ◌∙◌}
 use mathlib.Core.Bool.{true, false}
 use mathlib.Core.List.{List, [], ◌∷◌}
@@ -14,7 +15,6 @@ use Rattle.places.proofs.Places.{window_inside, window_bytes}
 use Rattle.calls.specs.Outcome.{Outcome, accepted}
 use Rattle.expander.specs.Expander.{choice_of}
 use Rattle.expander.specs.declared.Expander.{Expander}
-use Rattle.expander.specs.declared.Choice.TheVariants.{Known}
 use Rattle.group.specs.Modular.{modulus, field}
 use Rattle.signed.specs.SignedReading.{embed}
 use Rattle.point.specs.Evaluation.{bit_of, share}
@@ -103,7 +103,7 @@ module _ (s : Lent) (xs : List Bits) (ws : List ℤ) where
         (seed_bytes (length xs) s.seeds0 sized0 i h) (seed_bytes (length xs) s.seeds1 sized1 i h)
 
     -- what the key maker gives for report i under a known expander
-    pub key_of : (e : Expander) → choice_of s.expander ≡ Known e → 1 ≤ s.n → s.n ≤ 256 → (i : ℕ) → i < length xs
+    pub key_of : (e : Expander) → choice_of s.expander ≡ Some e → 1 ≤ s.n → s.n ≤ 256 → (i : ℕ) → i < length xs
         → key_at s (get_or xs i []) (get_or ws i (pos 0)) i ≡ accepted (report_public_share (scheme e) s.n (report_at i))
     key_of e named from to i h = key_accepted e s.n (report_at i) (report_made i h) (get_or ws i (pos 0)) refl s.expander named from to (public_share_length s.n) (omega arith)
 
@@ -128,7 +128,7 @@ module _ (s : Lent) (xs : List Bits) (ws : List ℤ) where
     reports_weighing = tabled_weighing (length xs) ws report_at honest.weighed honest.weights (λ i h. refl)
 
     -- Under a known expander and for strings of 1 to 256 bits the public shares lent to each server are theirs.
-    module _ (e : Expander) (named : choice_of s.expander ≡ Known e) (from : 1 ≤ s.n) (to : s.n ≤ 256) where
+    module _ (e : Expander) (named : choice_of s.expander ≡ Some e) (from : 1 ≤ s.n) (to : s.n ≤ 256) where
       public_of : (shares : List ℕ) (i : ℕ) → i < length xs → key_at s (get_or xs i []) (get_or ws i (pos 0)) i ≡ accepted (public_share_at s.n shares i)
           → public_share_at s.n shares i ≡ report_public_share (scheme e) s.n (report_at i)
       public_of shares i h made =

@@ -1,4 +1,6 @@
 -- What the key maker, a server and combining write on success: its length, and that it fits.
+use Rattle.expander.specs.declared.Expander.{Expander}
+use Rattle.std.specs.Prelude.{Option, Some, None}
 use Prim.Native.Nat.{ℕ, suc, ◌+◌, ◌*◌, ◌≤◌, ◌<◌}
 use native.Mathlib.Omega.{arith}
 use mathlib.Core.Path.{◌≡◌, refl, sym, ap, ◌∙◌, subst}
@@ -17,8 +19,6 @@ use Rattle.calls.specs.Outcome.{Outcome, judged}
 use Rattle.calls.proofs.Decisions.{neither}
 use Rattle.calls.proofs.Judged.{Clear, judged_due, judged_accepted, judged_clear, threshold_numbered, ◌&◌}
 use Rattle.expander.specs.Expander.{choice_of}
-use Rattle.expander.specs.declared.Choice.{Choice}
-use Rattle.expander.specs.declared.Choice.TheVariants.{Known, Unknown}
 use Rattle.point.specs.PublicShare.{public_share_length}
 use Rattle.query.specs.Query.{OfLength, prefix_length, prefix_count}
 use Rattle.query.proofs.Children.{children_longer}
@@ -46,11 +46,11 @@ share_room n e b seeds shares query room h = (go (choice_of e) refl, (outcome.re
     clear : (judged (outcome.causes n e seeds shares query room) []).number ≡ 0
     clear = outcome.outcome_number n e b seeds shares query room refl ∙ h
 
-    go : (c : Choice) → choice_of e ≡ c → length (share_outcome n e b seeds shares query room).written ≡ 8 * prefix_count query
-    go (Known x) q =
+    go : (c : Option Expander) → choice_of e ≡ c → length (share_outcome n e b seeds shares query room).written ≡ 8 * prefix_count query
+    go (Some x) q =
         ap (λ (o : Outcome). length o.written) (outcome.outcome_accepted n e b seeds shares query room x q clear)
         ∙ outcome.bytes_length n b seeds shares query x
-    go Unknown q = absurd (outcome.never_unknown n e seeds shares query room q clear)
+    go None q = absurd (outcome.never_unknown n e seeds shares query room q clear)
 
 -- the strings of an answer for prefixes of k bits: one bit longer in a next query, n bits in a list
 abbrev Sized : ℕ → ℕ → Answer → Type 0

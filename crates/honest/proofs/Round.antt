@@ -1,5 +1,7 @@
 -- One round of a search to which no cause before 11 applies, whatever reports were lent: both servers answer a query, and combining answers
 -- their shares.
+use Rattle.expander.specs.declared.Expander.{Expander}
+use Rattle.std.specs.Prelude.{Option}
 use mathlib.Core.Path.{◌≡◌, refl, sym, ap, ap₂, ◌∙◌}
 use mathlib.Core.Bool.{Bool, true, false, cond, not, ◌||◌}
 use mathlib.Core.List.{List, [], ◌∷◌, map}
@@ -15,7 +17,6 @@ use Rattle.calls.specs.Causes.{number_due}
 use Rattle.calls.specs.Outcome.{accepted}
 use Rattle.calls.proofs.Decisions.{neither_test, in_bounds}
 use Rattle.calls.proofs.Judged.{judged_accepted, ◌&◌}
-use Rattle.expander.specs.declared.Choice.{Choice}
 use Rattle.group.specs.Modular.{p, field}
 use Rattle.point.specs.Evaluation.{bit_of}
 use Rattle.kept.specs.Kept.{kept}
@@ -57,7 +58,7 @@ module _ (s : Lent) (sound : Sound s) where
   -- both sums added are the total
   sums_total : (λ (q : Bits). field.add (sum false q) (sum true q)) ≡ total s
   unfolding total_under
-  sums_total = ap (λ (c : Choice). total_under c s) (sym sound.named)
+  sums_total = ap (λ (c : Option Expander). total_under c s) (sym sound.named)
 
   -- Where the bytes pass as a query, both servers succeed and write their sums.
   share_succeeds : (b : Bool) (q : List ℕ) → is_query s.n q ≡ true → share_of s b q ≡ accepted (in_bytes (map (sum b) (prefixes_of q)))

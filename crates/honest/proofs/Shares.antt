@@ -1,4 +1,5 @@
 -- A server's outcome for honest reports: no cause applies.
+use Rattle.std.specs.Prelude.{Option, Some}
 use mathlib.Core.Path.{◌≡◌, sym, ap, ◌∙◌}
 use mathlib.Core.Bool.{Bool, true, false, not, ◌&&◌}
 use mathlib.Core.List.{List, [], map}
@@ -19,8 +20,6 @@ use Rattle.calls.proofs.Decisions.{neither_test, in_bounds}
 use Rattle.calls.proofs.Judged.{judged_accepted, ◌&◌}
 use Rattle.expander.specs.Expander.{choice_of, under}
 use Rattle.expander.specs.declared.Expander.{Expander}
-use Rattle.expander.specs.declared.Choice.{Choice}
-use Rattle.expander.specs.declared.Choice.TheVariants.{Known}
 use Rattle.expander.proofs.Chosen.{known}
 use Rattle.group.specs.Modular.{p}
 use Rattle.point.specs.Evaluation.{bit_of}
@@ -64,7 +63,7 @@ query_prefixes n query asks =
     (omega arith, omega arith))
 
 -- At most 65,535 honest reports in a search of 1 to 256 bits, and the number of its expander.
-module _ (e : Expander) (number : ℕ) (named : choice_of number ≡ Known e) (n : ℕ) (from : 1 ≤ n) (to : n ≤ 256)
+module _ (e : Expander) (number : ℕ) (named : choice_of number ≡ Some e) (n : ℕ) (from : 1 ≤ n) (to : n ≤ 256)
     (rs : List (Report ℕ)) (made : All (MadeReport n) rs) (few : length rs ≤ 65535) where
   -- what server b is lent has the right lengths
   pub lent_lengths : (b : Bool) → wrong_lengths n (lent_seeds b rs) (lent_shares e n rs) ≡ false
@@ -99,7 +98,7 @@ module _ (e : Expander) (number : ℕ) (named : choice_of number ≡ Known e) (n
       judged_accepted (share_causes n number (lent_seeds b rs) (lent_shares e n rs) query room) _
       (in_bounds 256 n from to & ap not (known number e named) & lent_lengths b & le-ltb most_reports _ reports
       & lent_payloads b & lent_spares b & ap not asks & le-ltb room (8 * prefix_count query) fits & tt)
-      ∙ ap (λ (c : Choice). accepted (under c (share_bytes n b (lent_seeds b rs) (lent_shares e n rs) query))) named
+      ∙ ap (λ (c : Option Expander). accepted (under c (share_bytes n b (lent_seeds b rs) (lent_shares e n rs) query))) named
 
   -- So it does where it is lent what is equal.
   pub share_lent : (b : Bool) (seeds shares : List ℕ) → seeds ≡ lent_seeds b rs → shares ≡ lent_shares e n rs

@@ -1,4 +1,5 @@
 -- Whatever reports were lent, if no cause before 11 applies to the search: both servers succeed for each query, and write their sums.
+use Rattle.std.specs.Prelude.{Option, Some, None}
 use mathlib.Core.Path.{◌≡◌, sym, ap, ◌∙◌}
 use mathlib.Core.Bool.{Bool, true, false, cond, not}
 use mathlib.Core.List.{List}
@@ -14,8 +15,6 @@ use Rattle.calls.proofs.Decisions.{neither_test, in_bounds}
 use Rattle.calls.proofs.Judged.{judged_accepted, ◌&◌}
 use Rattle.expander.specs.Expander.{choice_of, under}
 use Rattle.expander.specs.declared.Expander.{Expander}
-use Rattle.expander.specs.declared.Choice.{Choice}
-use Rattle.expander.specs.declared.Choice.TheVariants.{Known, Unknown}
 use Rattle.expander.proofs.Chosen.{known}
 use Rattle.group.specs.Modular.{p, field}
 use Rattle.point.specs.Evaluation.{bit_of}
@@ -49,12 +48,12 @@ pub total_below : (s : Lent) (q : Bits) → total s q < p
 unfolding total_under
 total_below s q = go (choice_of s.expander)
   where
-    go : (c : Choice) → total_under c s q < p
-    go (Known e) = mod-lt _ (omega arith)
-    go Unknown = omega arith
+    go : (c : Option Expander) → total_under c s q < p
+    go (Some e) = mod-lt _ (omega arith)
+    go None = omega arith
 
 -- What a server is lent for C reports of 1 to 256 bits, at most 65,535, is whole; and the number of the expander.
-module _ (n number : ℕ) (e : Expander) (named : choice_of number ≡ Known e) (from : 1 ≤ n) (to : n ≤ 256)
+module _ (n number : ℕ) (e : Expander) (named : choice_of number ≡ Some e) (from : 1 ≤ n) (to : n ≤ 256)
     (seeds shares : List ℕ) (C : ℕ) (lent : Whole n seeds shares C) (few : C ≤ 65535) where
   seeds_count : length seeds / 16 ≡ C
   seeds_count = omega (arith, lent.seeds_length)
@@ -84,4 +83,4 @@ module _ (n number : ℕ) (e : Expander) (named : choice_of number ≡ Known e) 
       judged_accepted (share_causes n number seeds shares query room) _
       (in_bounds 256 n from to & ap not (known number e named) & right_lengths & le-ltb most_reports _ most
       & payloads_small & spares_zero_lem & ap not asks & le-ltb room (8 * prefix_count query) fits & tt)
-      ∙ ap (λ (c : Choice). accepted (under c (share_bytes n b seeds shares query))) named
+      ∙ ap (λ (c : Option Expander). accepted (under c (share_bytes n b seeds shares query))) named

@@ -1,4 +1,5 @@
 -- A server's share of two lists of reports laid together is the sum of its shares of each, as `add_shares` writes it.
+use Rattle.std.specs.Prelude.{Option, Some, None}
 use Prim.Native.Nat.{ℕ, zero, suc, ◌+◌, ◌-◌, ◌*◌, ◌/◌, ◌%◌, ◌≤◌, ◌<◌, min}
 use native.Mathlib.Nat.{add-zero, add-suc, mul-add, mul-div_right, min-eq_left}
 use native.Mathlib.Decide.{dec_lt}
@@ -17,8 +18,6 @@ use Rattle.calls.proofs.Decisions.{neither_test}
 use Rattle.calls.proofs.Judged.{judged_accepted, ◌&◌}
 use Rattle.expander.specs.Expander.{choice_of}
 use Rattle.expander.specs.declared.Expander.{Expander}
-use Rattle.expander.specs.declared.Choice.{Choice}
-use Rattle.expander.specs.declared.Choice.TheVariants.{Known, Unknown}
 use Rattle.group.specs.Modular.{p, field}
 use Rattle.group.proofs.Modular.{field_laws}
 use Rattle.point.specs.Evaluation.{bit_of, share}
@@ -154,8 +153,8 @@ module _ (n e : ℕ) (b : Bool) (query seeds_a shares_a seeds_b shares_b : List 
       → ((together room).number ≡ 0) × (together room ≡ add_outcome answer_a.written answer_b.written space)
   share_split a c few room space fits fits' = go (choice_of e) refl
     where
-      go : (x : Choice) → choice_of e ≡ x → ((together room).number ≡ 0) × (together room ≡ add_outcome answer_a.written answer_b.written space)
-      go (Known x) named =
+      go : (x : Option Expander) → choice_of e ≡ x → ((together room).number ≡ 0) × (together room ≡ add_outcome answer_a.written answer_b.written space)
+      go (Some x) named =
           let w_a = lent_whole n e b seeds_a shares_a query room_a a in
           let w_b = lent_whole n e b seeds_b shares_b query room_b c in
           let r_a = w_a.0 in
@@ -174,4 +173,4 @@ module _ (n e : ℕ) (b : Bool) (query seeds_a shares_a seeds_b shares_b : List 
                 ∙ sums_added (sum_at x n b seeds_a shares_a) (sum_at x n b seeds_b shares_b) (sum_small x n b seeds_a shares_a) (sum_small x n b seeds_b shares_b) qs space
                 (rw (outcome.prefixes_length query) fits')),
           )
-      go Unknown named = absurd (outcome.never_unknown n e seeds_a shares_a query room_a named (outcome.outcome_number n e b seeds_a shares_a query room_a refl ∙ a))
+      go None named = absurd (outcome.never_unknown n e seeds_a shares_a query room_a named (outcome.outcome_number n e b seeds_a shares_a query room_a refl ∙ a))

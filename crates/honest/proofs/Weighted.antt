@@ -1,4 +1,5 @@
 -- Honest searches with any weights: signed totals, and which strings the list holds. Where every weight is one, `Demand2` says more.
+use Rattle.std.specs.Prelude.{Some}
 use Prim.Native.Nat.{ℕ, ◌+◌, ◌*◌, ◌/◌, ◌≤◌, ◌<◌}
 use native.Mathlib.Omega.{arith}
 use mathlib.Core.Path.{◌≡◌, refl, sym, ap, ap₂, ◌∙◌}
@@ -15,7 +16,6 @@ use Rattle.bits.proofs.Append.{append_length}
 use Rattle.calls.proofs.Decisions.{passed}
 use Rattle.expander.specs.Expander.{choice_of}
 use Rattle.expander.specs.declared.Expander.{Expander}
-use Rattle.expander.specs.declared.Choice.TheVariants.{Known}
 use Rattle.expander.proofs.Chosen.{known}
 use Rattle.group.specs.Modular.{modulus}
 use Rattle.signed.specs.SignedReading.{embed, signed_in}
@@ -46,7 +46,7 @@ Throughout s xs ws bytes =
     × ((x : Bits) → (x ∈ ss) ↔ ((length x ≡ s.n) × HeavyThroughout (threshold_of s) (counted_strings s xs) (counted_weights s ws) x))
 
 -- At most 65,535 honest reports for strings of 1 to 256 bits under a known expander.
-module _ (s : Lent) (xs : List Bits) (ws : List ℤ) (honest : Honest s xs ws) (e : Expander) (named : choice_of s.expander ≡ Known e)
+module _ (s : Lent) (xs : List Bits) (ws : List ℤ) (honest : Honest s xs ws) (e : Expander) (named : choice_of s.expander ≡ Some e)
     (from : 1 ≤ s.n) (to : s.n ≤ 256) (few : length xs ≤ 65535) where
   keeps : (q : Bits) → 1 ≤ length q → length q ≤ s.n → reaches_of s (total s q) ≡ le_z (pos (threshold_of s)) (held_weight xs ws q)
   keeps q some fits = kept_weighs s xs ws honest e named from to few q (omega arith) fits

@@ -5,9 +5,9 @@ use native.Mathlib.Nat.{min-eq_left, mul_comm, div-add-mod'}
 use mathlib.Core.Path.{◌≡◌, ap, ◌∙◌}
 use mathlib.Core.Bool.{Bool, true, false, not}
 use mathlib.Core.List.{List, []}
-use borrow.Author.Tests.{eqb-true, lt-ltb, le-ltb, ltb-false, not-false}
+use borrow.Author.Tests.{eqb-true, ltb-false, not-false}
 use lib.ListN.{length, drop, length-map}
-use lib.Dec.{eqb, ltb}
+use lib.Dec.{eqb}
 use Rattle.bits.specs.Strings.{Bits}
 use Rattle.bits.specs.Packing.{packed_length, unpack}
 use Rattle.calls.specs.Bounds.{most_bits, most_reports, outside}
@@ -17,7 +17,7 @@ use Rattle.calls.proofs.Decisions.{neither, bounds}
 use Rattle.calls.proofs.Judged.{Clear, judged_number, judged_refused, judged_accepted, judged_clear}
 use Rattle.expander.specs.Expander.{is_expander, choice_of}
 use Rattle.expander.specs.declared.Expander.{Expander}
-use Rattle.expander.specs.declared.Choice.TheVariants.{Known, Unknown}
+use Rattle.std.specs.Prelude.{Some, None}
 use Rattle.expander.proofs.Chosen.{unknown}
 use Rattle.group.specs.Modular.{p}
 use Rattle.point.specs.Evaluation.{bit_of}
@@ -27,7 +27,6 @@ use Rattle.query.specs.Query.{prefix_length, prefix_count, packed_prefixes, pref
 use Rattle.query.proofs.Queries.{parts_length}
 use Rattle.tree.proofs.Lengths.{totals_length}
 use Rattle.report_sums.specs.Reports.{report_count, public_share_at, all_count, server_sum}
-use Rattle.report_sums.specs.Checks.{wrong_lengths, payload_too_large, spare_bits_set}
 use Rattle.idpf.specs.Share.{share_causes, share_bytes, share_outcome}
 
 -- ---- the first cause that applies
@@ -38,37 +37,6 @@ module _ (n e : ℕ) (seeds shares query : List ℕ) (room : ℕ) where
 
   pub cause_1 : outside most_bits n ≡ true → 1 ≡ (judged causes []).number
   cause_1 h = rw h
-
-  module _ (h₁ : outside most_bits n ≡ false) where
-    pub cause_3 : is_expander e ≡ false → 3 ≡ (judged causes []).number
-    cause_3 h = rw (h₁, h)
-
-    module _ (h₃ : is_expander e ≡ true) where
-      pub cause_4 : wrong_lengths n seeds shares ≡ true → 4 ≡ (judged causes []).number
-      cause_4 h = rw (h₁, h₃, h)
-
-      module _ (h₄ : wrong_lengths n seeds shares ≡ false) where
-        pub cause_5 : ltb most_reports (length seeds / 16) ≡ true → 5 ≡ (judged causes []).number
-        cause_5 h = rw (h₁, h₃, h₄, h)
-
-        module _ (h₅ : ltb most_reports (length seeds / 16) ≡ false) where
-          pub cause_6 : payload_too_large n (report_count n seeds shares) shares ≡ true → 6 ≡ (judged causes []).number
-          cause_6 h = rw (h₁, h₃, h₄, h₅, h)
-
-          module _ (h₆ : payload_too_large n (report_count n seeds shares) shares ≡ false) where
-            pub cause_7 : spare_bits_set n (report_count n seeds shares) shares ≡ true → 7 ≡ (judged causes []).number
-            cause_7 h = rw (h₁, h₃, h₄, h₅, h₆, h)
-
-            module _ (h₇ : spare_bits_set n (report_count n seeds shares) shares ≡ false) where
-              pub cause_9 : is_query n query ≡ false → 9 ≡ (judged causes []).number
-              cause_9 h = rw (h₁, h₃, h₄, h₅, h₆, h₇, h)
-
-              module _ (h₉ : is_query n query ≡ true) where
-                pub cause_11 : room < 8 * prefix_count query → 11 ≡ (judged causes []).number
-                cause_11 h = rw (h₁, h₃, h₄, h₅, h₆, h₇, h₉, lt-ltb room (8 * prefix_count query) h)
-
-                pub no_cause : 8 * prefix_count query ≤ room → 0 ≡ (judged causes []).number
-                no_cause h = rw (h₁, h₃, h₄, h₅, h₆, h₇, h₉, le-ltb room (8 * prefix_count query) h)
 
 -- ---- what follows where no cause applies
 
@@ -129,14 +97,14 @@ module _ (n e : ℕ) (b : Bool) (seeds shares query : List ℕ) (room : ℕ) whe
   outcome_refused h z = judged_refused (causes n e seeds shares query room) _ (λ y. z (h ∙ judged_number (causes n e seeds shares query room) [] _ ∙ y))
 
   -- success
-  pub outcome_accepted : (x : Expander) → choice_of e ≡ Known x → (judged (causes n e seeds shares query room) []).number ≡ 0
+  pub outcome_accepted : (x : Expander) → choice_of e ≡ Some x → (judged (causes n e seeds shares query room) []).number ≡ 0
       → share_outcome n e b seeds shares query room ≡ accepted (share_bytes n b seeds shares query x)
   unfolding share_outcome
   outcome_accepted x c h =
       judged_accepted (causes n e seeds shares query room) _ (clear n e seeds shares query room h) ∙ rw c
 
 -- an expander that is none is refused
-pub never_unknown : (n e : ℕ) (seeds shares query : List ℕ) (room : ℕ) → choice_of e ≡ Unknown → (judged (causes n e seeds shares query room) []).number ≡ 0 → ⊥
+pub never_unknown : (n e : ℕ) (seeds shares query : List ℕ) (room : ℕ) → choice_of e ≡ None → (judged (causes n e seeds shares query room) []).number ≡ 0 → ⊥
 never_unknown n e seeds shares query room c h =
     let k : is_expander e ≡ true = (ready n e seeds shares query room h).known in
     let u : is_expander e ≡ false = unknown e c in

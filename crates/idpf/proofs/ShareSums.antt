@@ -13,7 +13,7 @@ use Rattle.bits.specs.Packing.{bits_of, unpack}
 use Rattle.places.specs.Places.{put_at, overlay}
 use Rattle.numbers.proofs.Endian.{little_length}
 use Rattle.bits.proofs.Packed.{unpack_length}
-use Rattle.places.proofs.Places.{put_at_length, put_at_overlay, Grown, grown_start, grown_more, grown_end}
+use Rattle.places.proofs.Places.{put_at_overlay, Grown, grown_start, grown_more, grown_end}
 use Rattle.expander.specs.declared.Expander.{Expander}
 use Rattle.point.specs.Evaluation.{bit_of}
 use Rattle.query.specs.Query.{prefix_length, prefix_count, prefixes_of, is_query}
@@ -76,9 +76,6 @@ module _ (e : Expander) (n : ℕ) (b : Bool) (seeds shares : List ℕ) where
       sums_two out out' i k h l g f =
           let next : i + 1 + 1 ≡ i + 2 = omega arith in
           rw next at (sums_more _ out' (i + 1) k h l (sums_more out _ i k (omega arith) l g refl) f)
-
-      pub sums_length : (out : List ℕ) (i : ℕ) → Grown d 0 out (8 * i) (left q i) (all q) → length out ≡ length d
-      sums_length out i g = ap length g.1 ∙ put_at_length d 0 g.0
 
       pub sums_end : (out : List ℕ) (i : ℕ) → prefix_count q ≤ i → Grown d 0 out (8 * i) (left q i) (all q) → out ≡ overlay (share_bytes n b seeds shares q e) d
       unfolding share_bytes

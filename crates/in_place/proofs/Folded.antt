@@ -1,19 +1,20 @@
 -- All turns of a call's task leave what the call is to leave.
 use Prim.Native.Nat.{ℕ, ◌+◌, ◌*◌, ◌<◌}
 use native.Mathlib.Omega.{arith}
-use native.Mathlib.Decide.{ℕ_discrete}
 use mathlib.Core.Path.{◌≡◌, sym, ap, subst, ◌∙◌}
 use mathlib.Core.Bool.{Bool}
 use mathlib.Core.List.{List, [], map}
-use borrow.Author.Tests.{eq-eqb, ne_eqb}
+use Rattle.std.specs.Prelude.{Ok, Err, Some}
 use lib.ListN.{length, replicate, length-map, length-replicate}
 use Rattle.places.specs.Places.{overlay}
 use Rattle.places.proofs.Places.{overlay_nil, overlay_length}
 use Rattle.calls.specs.Causes.{number_due}
 use Rattle.calls.specs.Outcome.{Outcome}
-use Rattle.calls.specs.declared.Reply.{Reply}
+use Rattle.calls.specs.Refusals.{number_of}
+use Rattle.calls.specs.declared.Refusal.{Refusal}
 use Rattle.calls.proofs.Judged.{number_clear}
-use Rattle.expander.specs.declared.Choice.{Choice}
+use Rattle.expander.specs.Expander.{choice_of}
+use Rattle.expander.specs.declared.Expander.{Expander}
 use Rattle.query.specs.Query.{prefix_count, prefixes_of}
 use Rattle.point.specs.Node as point
 use Rattle.nodes.specs.declared.Node.{Node}
@@ -21,18 +22,17 @@ use Rattle.nodes.specs.NodeLayout.{node_of}
 use Rattle.tree.proofs.Lengths.{totals_length}
 use Rattle.parents.proofs.Last.{prefixes_length}
 use Rattle.node_lists.specs.NodeList.{kept_share}
-use Rattle.node_lists.specs.ShareKept.{KeptLent, lent, kept_causes, kept_outcome, KeptExit, kept_exit, kept_left}
+use Rattle.node_lists.specs.ShareKept.{KeptLent, lent, kept_causes, kept_outcome, KeptExit, kept_exit, kept_answered}
 use Rattle.node_lists.proofs.KeptOutcome.{kept_number, Ready, clear_ready, kept_number_lem, kept_refused, nodes_refused, kept_accepted, nodes_accepted}
 use Rattle.turns.specs.declared.Task.{Task}
-use Rattle.turns.specs.declared.Place.{Place}
-use Rattle.turns.specs.Turns.{refused_task, task_under, task_of, cleared, reply_of, first_place, place_at, nodes_at, sums_at}
+use Rattle.turns.specs.Turns.{task_under, cleared, first_place, place_at, nodes_at, sums_at}
 use Rattle.in_place.proofs.Lengths.{first_left}
 use Rattle.in_place.proofs.Level.{new_count}
 use Rattle.in_place.proofs.Found.{task, turns_within, nodes_end, sums_end}
 
 -- what is returned and left, part by part
-exit_parts : {r : Reply} {area : List ℕ} {nodes : List point.Node} (x : KeptExit) → r.number ≡ x.number → r.length ≡ x.length → area ≡ x.area
-    → nodes ≡ x.nodes → kept_left r area nodes ≡ x
+exit_parts : {size : ℕ} {area : List ℕ} {nodes : List point.Node} (x : KeptExit) → 0 ≡ x.number → size ≡ x.length → area ≡ x.area
+    → nodes ≡ x.nodes → kept_answered (Ok size) area nodes ≡ x
 exit_parts x a b c d = rw (a, b, c, d)
 
 module _ (n e : ℕ) (b : Bool) (shares last query : List ℕ) (l : List Node) (area : List ℕ) where
@@ -52,36 +52,16 @@ module _ (n e : ℕ) (b : Bool) (shares last query : List ℕ) (l : List Node) (
     pub as_long : length (cleared t area) ≡ length area
     pub within : (s : ℕ) → s < (first_place t last query).left
         → ((place_at t shares last query (first_place t last query) s).source < length l) × ((place_at t shares last query (first_place t last query) s).target < length l)
-    pub folded : kept_left (reply_of t) (sums_at t shares last query (first_place t last query) l (cleared t area) (first_place t last query).left)
+    pub folded : kept_answered (Ok (8 * t.after)) (sums_at t shares last query (first_place t last query) l (cleared t area) (first_place t last query).left)
         (map node_of (nodes_at t shares last query (first_place t last query) l (first_place t last query).left)) ≡ kept_exit call
 
   -- ---- a refusal
 
-  refused_task_lem : (number ≡ 0 → ⊥) → task_of n e b shares last query (length l) (length area) ≡ refused_task number
-  unfolding task_of
-  refused_task_lem h = rw (ne_eqb number 0 h)
-
-  nothing_cleared : cleared (refused_task number) area ≡ area
-  unfolding cleared
-  nothing_cleared = overlay_nil area
-
-  refused_folds : (number ≡ 0 → ⊥) → Folds (refused_task number)
-  unfolding nodes_at sums_at reply_of
-  refused_folds h =
-      let t : Task = refused_task number in
-      let none : (first_place t last query).left ≡ 0 = first_left t last query in
+  pub refused_exit : (refusal : Refusal) → number_of refusal ≡ number → (number ≡ 0 → ⊥) → kept_answered (Err refusal) area (map node_of l) ≡ kept_exit call
+  refused_exit refusal found h =
       let k : kept_number call ≡ 0 → ⊥ = λ z. h (sym same_number ∙ z) in
       let written : (kept_outcome call).written ≡ [] = kept_refused call k in
-      record {
-        as_long = ap length nothing_cleared;
-        within = λ s i. absurd (omega arith);
-        folded = exit_parts (kept_exit call)
-            (sym (kept_number_lem call ∙ same_number))
-            (sym (ap length written))
-            (ap (sums_at t shares last query (first_place t last query) l (cleared t area)) none ∙ nothing_cleared
-            ∙ sym (ap (λ (w : List ℕ). overlay w area) written ∙ overlay_nil area))
-            (ap (λ (s : ℕ). map node_of (nodes_at t shares last query (first_place t last query) l s)) none ∙ sym (nodes_refused call k));
-      }
+      rw (found, sym same_number ∙ sym (kept_number_lem call), written, nodes_refused call k, overlay_nil area)
 
   -- ---- where no cause applies
 
@@ -92,18 +72,13 @@ module _ (n e : ℕ) (b : Bool) (shares last query : List ℕ) (l : List Node) (
         (number_clear (kept_causes n e shares last query (length l) (length area))
         (omega arith, (omega arith, (omega arith, (omega arith, (omega arith, (omega arith, (omega arith, (omega arith, (omega arith, (omega arith, tt)))))))))) h)
 
-    accepted_task : task_of n e b shares last query (length l) (length area) ≡ task n e b shares last query l area call_ready
-    unfolding task_of
-    accepted_task =
-        rw (eq-eqb number 0 h) (ap (λ (c : Choice). task_under c n b shares last query) call_ready.chosen)
-
     share_size : length (kept_share n shares last (map node_of l) call_ready.expander b query) ≡ 8 * prefix_count query
     unfolding kept_share
     share_size = totals_length _ (prefixes_of query) ∙ ap (λ (k : ℕ). 8 * k) (prefixes_length query)
 
-    accepted_folds : Folds (task n e b shares last query l area call_ready)
-    unfolding cleared reply_of
-    accepted_folds =
+    task_folds : Folds (task n e b shares last query l area call_ready)
+    unfolding cleared
+    task_folds =
         let r : Ready n e shares last query (length l) (length area) = call_ready in
         let t : Task = task n e b shares last query l area r in
         let all : (first_place t last query).left ≡ new_count t + new_count t = first_left t last query ∙ omega arith in
@@ -123,25 +98,9 @@ module _ (n e : ℕ) (b : Bool) (shares last query : List ℕ) (l : List Node) (
               ∙ sym (nodes_accepted call r.expander r.chosen zero-due));
         }
 
-  -- ---- either way
-
-  pub folds : Folds (task_of n e b shares last query (length l) (length area))
-  folds = elim (ℕ_discrete number 0) [
-    | yes h ↦ subst Folds (sym (accepted_task h)) (accepted_folds h)
-    | no h ↦ subst Folds (sym (refused_task_lem h)) (refused_folds h)
-  ]
-
-  -- its task, and the first place
-  abbrev pub task_here : Task
-  task_here = task_of n e b shares last query (length l) (length area)
-
-  abbrev pub first_here : Place
-  first_here = first_place task_here last query
-
-  pub within_first : (s : ℕ) → s < first_here.left
-      → ((place_at task_here shares last query first_here s).source < length l) × ((place_at task_here shares last query first_here s).target < length l)
-  within_first = folds.within
-
-  pub share_folded : kept_left (reply_of task_here) (sums_at task_here shares last query first_here l (cleared task_here area) first_here.left)
-      (map node_of (nodes_at task_here shares last query first_here l first_here.left)) ≡ kept_exit (lent n e b shares last query (map node_of l) area)
-  share_folded = folds.folded
+    -- the task that the call begins with is that one
+    pub folds : (t : Task) → choice_of e ≡ Some t.expander → t ≡ task_under t.expander n b shares last query → Folds t
+    folds t chosen made =
+        let named : Some call_ready.expander ≡ Some t.expander = sym call_ready.chosen ∙ chosen in
+        let same : call_ready.expander ≡ t.expander = cc in
+        subst Folds (ap (λ (x : Expander). task_under x n b shares last query) same ∙ sym made) task_folds

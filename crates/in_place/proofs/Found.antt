@@ -13,7 +13,6 @@ use Rattle.bits.specs.Packing.{bits_of}
 use Rattle.numbers.specs.Numbers.{in_bytes}
 use Rattle.group.specs.Modular.{field}
 use Rattle.group.proofs.Modular.{field_laws}
-use Rattle.expander.specs.declared.Choice.TheVariants.{Known}
 use Rattle.point.specs.Evaluation.{descend}
 use Rattle.point.specs.PublicShare.{read_correction}
 use Rattle.point.specs.Instance.{scheme}
@@ -44,7 +43,7 @@ use Rattle.in_place.proofs.Level.{new_count, word_of, bit_at, made, place_is, no
 module _ (n e : ℕ) (b : Bool) (shares last query : List ℕ) (l : List Node) (area : List ℕ) (r : Ready n e shares last query (length l) (length area)) where
   -- the task
   abbrev pub task : Task
-  task = task_under (Known r.expander) n b shares last query
+  task = task_under r.expander n b shares last query
 
   -- the new prefix j, and the place of its parent
   abbrev pub prefix_at : ℕ → Bits

@@ -1,5 +1,4 @@
 pub mod Kept
 pub mod Onward
 pub mod Examples
-pub mod SignedTests
 pub mod Weightless

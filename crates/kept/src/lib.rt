@@ -18,10 +18,7 @@ pub struct Rule {
 fn at_least(z: i64, t: u64) -> bool
     ensures { result ≡ le_z (pos t) z }
 {
-    if z < 0 {
-        return false;
-    }
-    t <= z as u64
+    u64::try_from(z).is_ok_and(|z| t <= z)
 }
 
 // Whether a prefix with this total is kept.

@@ -8,8 +8,7 @@ use Rattle.nodes.specs.declared.Node.{Node}
 use Rattle.turns.specs.declared.Task.{Task}
 use Rattle.turns.specs.declared.Place.{Place}
 use Rattle.turns.specs.Turns.{turned_node, turned_sums, next_place, no_struct, place_at, nodes_at, sums_at}
-use Rattle.node_lists.specs.declared.Filling.{Filling}
-use Rattle.node_lists.specs.Filling.{root_node, filling_next, filling_at, filled_at}
+use Rattle.node_lists.specs.Filling.{root_node, filled_at}
 
 -- ---- the turns of a query
 
@@ -40,19 +39,11 @@ module _ (t : Task) (shares last query : List ℕ) (p : Place) (l : List Node) w
 
 -- ---- the roots
 
-module _ (b : Bool) (seeds : List ℕ) (p : Filling) (l : List Node) where
-  pub filled_more : (s : ℕ) (v : Node) → v ≡ root_node b seeds (filling_at b seeds p s) → set (filled_at b seeds p l s) (filling_at b seeds p s).next v ≡ filled_at b seeds p l (suc s)
+module _ (b : Bool) (seeds : List ℕ) (l : List Node) where
+  pub filled_more : (s : ℕ) (v : Node) → v ≡ root_node b seeds s → set (filled_at b seeds l s) s v ≡ filled_at b seeds l (suc s)
   unfolding filled_at
-  filled_more s v e = ap (set (filled_at b seeds p l s) (filling_at b seeds p s).next) e
+  filled_more s v e = ap (set (filled_at b seeds l s) s) e
 
-  pub filled_none : l ≡ filled_at b seeds p l 0
+  pub filled_none : l ≡ filled_at b seeds l 0
   unfolding filled_at
   filled_none = refl
-
-  pub filling_more : (s : ℕ) (r : Filling) → r ≡ filling_next (filling_at b seeds p s) → r ≡ filling_at b seeds p (suc s)
-  unfolding filling_at
-  filling_more s r e = e
-
-  pub filling_none : p ≡ filling_at b seeds p 0
-  unfolding filling_at
-  filling_none = refl

@@ -2,15 +2,14 @@
 #![tactic(auto)]
 
 ghost use Rattle.std.specs.Prelude.{◌≡◌, map, length};
+ghost use Rattle.calls.specs.Refusals.{number_in};
 ghost use Rattle.nodes.specs.NodeLayout.{node_of};
-ghost use Rattle.node_lists.specs.Filling.{filled_at};
 ghost use Rattle.node_lists.specs.Roots.{roots_number, roots_after};
-ghost use Rattle.node_lists.specs.ShareKept.{lent, kept_exit, kept_left};
+ghost use Rattle.node_lists.specs.ShareKept.{lent, kept_exit, kept_answered};
 ghost use Rattle.turns.specs.Turns.{nodes_at, sums_at};
-ghost use Rattle.kept_nodes.specs.Within.{Within, Fillable};
+ghost use Rattle.kept_nodes.specs.Within.{Within};
 
-use calls::Reply;
-use node_lists::Filling;
+use calls::Refusal;
 use nodes::Node;
 use turns::{Place, Task};
 
@@ -28,10 +27,10 @@ fn advance(
     ensures { (nodes.new ≡ nodes_at task shares.now last.now query.now at nodes.old at.left)
         × (out.new ≡ sums_at task shares.now last.now query.now at nodes.old out.old at.left) }
 {
-    while 0 < at.left {
-        let t = turns::turn(task, shares, last, query, at, nodes[at.source], out);
-        nodes[at.target] = t.node;
-        at = t.next;
+    for _ in 0..at.left {
+        let (node, next) = turns::turn(task, shares, last, query, at, nodes[at.source], out);
+        nodes[at.target] = node;
+        at = next;
     }
 }
 
@@ -45,8 +44,8 @@ pub fn share_kept(
     query: &[u8],
     nodes: &mut [Node],
     out: &mut [u8],
-) -> Reply
-    ensures { kept_left result out.new (map node_of nodes.new)
+) -> Result<u64, Refusal>
+    ensures { kept_answered result out.new (map node_of nodes.new)
         ≡ kept_exit (lent n expander server public_shares.now last_query.now query.now (map node_of nodes.old) out.old) }
 {
     let task = turns::begin(
@@ -58,30 +57,20 @@ pub fn share_kept(
         query,
         nodes.len(),
         out,
-    );
+    )?;
     let at = turns::first(task, last_query, query);
     advance(task, public_shares, last_query, query, at, nodes, out);
-    turns::answer(task)
-}
-
-// Writes roots from a turn on.
-fn fill(server: bool, seeds: &[u8], mut at: Filling, nodes: &mut [Node])
-    requires { Fillable server seeds.now at (length nodes.old) }
-    ensures { nodes.new ≡ filled_at server seeds.now at nodes.old at.left }
-{
-    while 0 < at.left {
-        let t = node_lists::root(server, seeds, at);
-        nodes[at.next] = t.node;
-        at = t.rest;
-    }
+    Ok(turns::share_length(task))
 }
 
 // Writes the list at the roots; refuses with 4, 5 or 13.
-pub fn write_roots(server: bool, seeds: &[u8], nodes: &mut [Node]) -> u64
-    ensures { (result ≡ roots_number seeds.now (length nodes.old))
+pub fn write_roots(server: bool, seeds: &[u8], nodes: &mut [Node]) -> Result<(), Refusal>
+    ensures { (number_in result ≡ roots_number seeds.now (length nodes.old))
         × (map node_of nodes.new ≡ roots_after server seeds.now (map node_of nodes.old)) }
 {
-    let at = node_lists::begin_roots(seeds, nodes.len());
-    fill(server, seeds, at, nodes);
-    at.number
+    let count = node_lists::count_roots(seeds, nodes.len())?;
+    for i in 0..count {
+        nodes[i] = node_lists::root(server, seeds, i);
+    }
+    Ok(())
 }

@@ -1,14 +1,14 @@
 // The key program: a line `n e string seed0 seed1` on standard input, the page of its key on standard output.
 #![tactic(auto)]
 
-ghost use Rattle.std.specs.Prelude.{◌≤◌, ◌≡◌, IfSome, IsErrOf, OnOk, length, take};
-ghost use Rattle.std.specs.Io.KnownBytes.{Appends, Keeps};
-ghost use Rattle.key_answering.specs.KeyPage.{page_space};
+ghost use Rattle.std.specs.Prelude.{◌≤◌, ◌≡◌, length, take};
+ghost use Rattle.std.proofs.Common.{arith};
 ghost use Rattle.key_answering.specs.KeyAnswer.{key_output};
+ghost use Rattle.key_answering.specs.KeyPage.{page_space};
+ghost use Rattle.key_answering.proofs.KeyOutputs.{key_cut_output};
 ghost use Rattle.streams.specs.Prefix.{IsPrefixLen};
 
-use std::io::{Read, Write};
-use streams::{Failure, put, read_text};
+use streams::Program;
 
 // The whole output for a text at the beginning of `out`, and how many bytes it has.
 fn reply(text: &[u8], out: &mut [u8]) -> usize
@@ -19,24 +19,21 @@ fn reply(text: &[u8], out: &mut [u8]) -> usize
     reply.length as usize
 }
 
-// Answers what a reader gives, on a writer. Where it is known which bytes the reader has left, the output is that for all of them, although
-// no more than 4,097 are read.
-fn answer<R: Read, W: Write>(reader: &mut R, writer: &mut W) -> Result<(), Failure>
-    ensures ok { OnOk result (IfSome (R.remaining reader.old) (λ bytes. Appends (W.contents writer.old) (W.contents writer.new) (key_output bytes))) }
-    ensures unread { IsErrOf result Failure.Unread → Keeps (W.contents writer.old) (W.contents writer.new) }
-{
-    let mut text = [0u8; 4097];
-    let mut out = [0u8; 65536];
-    let input = read_text(reader, &mut text);
-    if input.failed {
-        return Err(Failure::Unread);
+// What it answers to a text.
+struct Key;
+
+impl Program for Key {
+    ghost output = { key_output };
+
+    fn respond(text: &[u8], out: &mut [u8; 65536]) -> usize {
+        reply(text, out)
     }
-    let end = reply(&text[..input.length], &mut out);
-    put(writer, &out[..end])
+
+    ghost cut = { λ m more bytes. key_cut_output m (Prim.omega (arith, more)) bytes };
 }
 
 fn main(rt: HostRuntime) {
-    if let Err(failure) = answer(&mut rt.stdin(), &mut rt.stdout()) {
+    if let Err(failure) = streams::serve::<Key, _, _>(&mut rt.stdin(), &mut rt.stdout()) {
         let _ = eprintln!(rt; "key: {failure}");
     }
 }

@@ -17,8 +17,7 @@ use Rattle.calls.proofs.Decisions.{neither, bounds}
 use Rattle.calls.proofs.Judged.{judged_due, judged_refused, judged_accepted, judged_clear}
 use Rattle.expander.specs.Expander.{choice_of, is_expander, under}
 use Rattle.expander.specs.declared.Expander.{Expander}
-use Rattle.expander.specs.declared.Choice.{Choice}
-use Rattle.expander.specs.declared.Choice.TheVariants.{Known}
+use Rattle.std.specs.Prelude.{Option, Some}
 use Rattle.point.specs.PublicShare.{public_share_length}
 use Rattle.keymaker.specs.Key.{key_causes, key_bytes, key_outcome}
 
@@ -67,5 +66,5 @@ module _ (n e : ℕ) (w : ℤ) (string seed0 seed1 : List ℕ) (room : ℕ) wher
       }
 
   -- what is written under the expander that the number names
-  pub key_accepted : (x : Expander) → choice_of e ≡ Known x → Ready → key_outcome n e w string seed0 seed1 room ≡ accepted (key_bytes n w string seed0 seed1 x)
-  key_accepted x h r = r.outcome ∙ ap (λ (c : Choice). accepted (under c (key_bytes n w string seed0 seed1))) h
+  pub key_accepted : (x : Expander) → choice_of e ≡ Some x → Ready → key_outcome n e w string seed0 seed1 room ≡ accepted (key_bytes n w string seed0 seed1 x)
+  key_accepted x h r = r.outcome ∙ ap (λ (c : Option Expander). accepted (under c (key_bytes n w string seed0 seed1))) h

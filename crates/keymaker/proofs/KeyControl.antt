@@ -1,6 +1,7 @@
 -- The control bytes of one level more, from those of the levels before it.
 use mathlib.Core.Path.{◌≡◌, refl, sym, ap, ap₂}
-use mathlib.Core.Bool.{Bool, false}
+use mathlib.Core.Bool.{Bool, true, false}
+use mir.Val.{bool_byte}
 use Prim.Native.Nat.{ℕ, zero, suc, ◌+◌, ◌*◌, ◌/◌, ◌%◌, ◌^◌, ◌<◌, ◌≤◌}
 use native.Mathlib.Nat.{mod-lt, mul-le-mul_right, pow-succ', mul_left_comm}
 use native.Mathlib.Omega.{arith}
@@ -38,6 +39,11 @@ lowest_more (suc k) (suc a) v f g h same none past e =
     lowest_more k a v (λ i. f (suc i)) (λ i. g (suc i)) (omega arith) (λ i l. same (suc i) (omega arith))
     (λ i l m. none (suc i) (omega arith) (omega arith)) (λ i l m. past (suc i) (omega arith) (omega arith)) e in
     omega arith
+
+-- a bit as a number
+pub digit_of : (b : Bool) {x : ℕ} → x ≡ bool_byte b → (x ≡ digit b) × (x ≤ 1)
+digit_of true e = (e, omega (arith, e))
+digit_of false e = (e, omega (arith, e))
 
 -- a byte of weight-w digits: what stands below them is less than w
 pub byte_fits : (old w v : ℕ) → 0 < w → w ≤ 64 → v ≤ 3 → old % w + v * w < 256

@@ -15,14 +15,13 @@ use Rattle.calls.proofs.Decisions.{neither_test, in_bounds}
 use Rattle.calls.proofs.Judged.{judged_accepted, ◌&◌}
 use Rattle.expander.specs.Expander.{choice_of, under}
 use Rattle.expander.specs.declared.Expander.{Expander}
-use Rattle.expander.specs.declared.Choice.{Choice}
-use Rattle.expander.specs.declared.Choice.TheVariants.{Known}
+use Rattle.std.specs.Prelude.{Option, Some}
 use Rattle.expander.proofs.Chosen.{known}
 use Rattle.point.specs.PublicShare.{public_share_length}
 use Rattle.keymaker.specs.Key.{key_causes, key_bytes, key_outcome}
 use Rattle.keymaker.proofs.KeyTheorems.{bytes_pass}
 
-module _ (n number : ℕ) (e : Expander) (named : choice_of number ≡ Known e) (w : ℤ) (s : Bits) (seed0 seed1 : List ℕ) (bits : length s ≡ n) (sized0 : Bytes 16 seed0)
+module _ (n number : ℕ) (e : Expander) (named : choice_of number ≡ Some e) (w : ℤ) (s : Bits) (seed0 seed1 : List ℕ) (bits : length s ≡ n) (sized0 : Bytes 16 seed0)
     (sized1 : Bytes 16 seed1) where
   packed_size : length (pack s) ≡ packed_length n
   packed_size = pack_length s ∙ ap packed_length bits
@@ -37,7 +36,7 @@ module _ (n number : ℕ) (e : Expander) (named : choice_of number ≡ Known e) 
       (neither_test (ap not (eq-eqb (length seed0) 16 sized0.size)) (ap not (eq-eqb (length seed1) 16 sized1.size))) in
       judged_accepted (key_causes n number (pack s) seed0 seed1 room) _
       (in_bounds 256 n from to & ap not (known number e named) & lengths & ap not spare & le-ltb room (public_share_length n) fits & tt)
-      ∙ ap accepted (ap (λ (c : Choice). under c (key_bytes n w (pack s) seed0 seed1)) named)
+      ∙ ap accepted (ap (λ (c : Option Expander). under c (key_bytes n w (pack s) seed0 seed1)) named)
 
   -- It has the length of a public share.
   pub made_length : length (key_bytes n w (pack s) seed0 seed1 e) ≡ public_share_length n

@@ -16,8 +16,7 @@ use Rattle.calls.proofs.Decisions.{failed, failed_test, differ, differ_test, eit
 use Rattle.calls.proofs.Judged.{due, none, next, length_decided, expander_decided, space_decided}
 use Rattle.expander.specs.Expander.{choice_of}
 use Rattle.expander.specs.declared.Expander.{Expander}
-use Rattle.expander.specs.declared.Choice.{Choice}
-use Rattle.expander.specs.declared.Choice.TheVariants.{Known, Unknown}
+use Rattle.std.specs.Prelude.{Option, Some, None}
 use Rattle.expander.proofs.Chosen.{unknown}
 use Rattle.group.specs.Modular.{p, modulus}
 use Rattle.signed.specs.SignedReading.{embed}
@@ -77,8 +76,8 @@ pub key_passes : (n e : ℕ) (w : ℤ) (string seed0 seed1 : List ℕ) (room : �
     → (key_outcome n e w string seed0 seed1 room).number ≡ 0 → Passes n (key_outcome n e w string seed0 seed1 room).written
 key_passes n e w string seed0 seed1 room byte0 byte1 h = go (choice_of e) refl (ready n e w string seed0 seed1 room h)
   where
-    go : (c : Choice) → choice_of e ≡ c → Ready n e w string seed0 seed1 room → Passes n (key_outcome n e w string seed0 seed1 room).written
-    go (Known x) q r =
+    go : (c : Option Expander) → choice_of e ≡ c → Ready n e w string seed0 seed1 room → Passes n (key_outcome n e w string seed0 seed1 room).written
+    go (Some x) q r =
         rw (key_accepted n e w string seed0 seed1 room x q r)
         (bytes_pass n w string seed0 seed1 r.string_length (record { size = r.seed0_length; byte = byte0 }) (record { size = r.seed1_length; byte = byte1 }) x)
-    go Unknown q r = absurd (true≢false (sym r.expander ∙ unknown e q))
+    go None q r = absurd (true≢false (sym r.expander ∙ unknown e q))

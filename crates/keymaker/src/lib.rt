@@ -3,12 +3,14 @@
 
 mod level;
 
-ghost use Rattle.std.specs.Prelude.{◌≡◌, not, ◌||◌, ◌+◌, ◌*◌, ◌/◌, ◌%◌, ◌^◌, ◌≤◌, ◌<◌, length, get_or, set, eqb};
+ghost use Rattle.std.specs.Prelude.{◌≡◌, not, ◌||◌, ◌+◌, ◌*◌, ◌/◌, ◌%◌, ◌^◌, ◌≤◌, ◌<◌, length, get_or, set, eqb, IfOk, Some};
 ghost use Rattle.places.specs.Lists.{digit};
 ghost use Rattle.places.specs.Places.{Bytes, put_at, overlay};
 ghost use Rattle.bits.specs.Packing.{packed_length, unpack};
 ghost use Rattle.calls.specs.Causes.{number_due};
-ghost use Rattle.calls.specs.Outcome.{left};
+ghost use Rattle.calls.specs.Refusals.{number_in};
+ghost use Rattle.calls.specs.Outcome.{answered};
+ghost use Rattle.expander.specs.Expander.{choice_of};
 ghost use Rattle.point.specs.Keys.{key_correction};
 ghost use Rattle.point.specs.Evaluation.{bit_of};
 ghost use Rattle.point.specs.PublicShare.{level_bytes, public_share, public_share_length};
@@ -16,21 +18,14 @@ ghost use Rattle.point.specs.Instance.{scheme};
 ghost use Rattle.nodes.specs.NodeLayout.{correction_of};
 ghost use Rattle.keymaker.specs.Key.{key_causes, key_exit};
 
-use crate::level::{Nodes, next_level};
+use crate::level::next_level;
 use bits::{bit_at, packed_length, spare_zero};
-use calls::Reply;
-use expander::{Choice, Expander};
+use calls::Refusal;
+use expander::Expander;
 use nodes::{Correction, Node, level_start, public_share_length};
 use numbers::write_le8;
 use places::{read16, write16};
 use signed::from_signed;
-
-// A bit as a number.
-fn bit(b: bool) -> u64
-    ensures { (result ≡ digit b) × (result ≤ 1) }
-{
-    if b { 1 } else { 0 }
-}
 
 // The place value of the first control bit of level k within its byte.
 fn place_value(k: u16) -> u64
@@ -44,8 +39,8 @@ fn control_byte(old: u8, k: u16, left: bool, right: bool) -> u8
     ensures { result ≡ old % 2 ^ (2 * (k % 4)) + (digit left + 2 * digit right) * 2 ^ (2 * (k % 4)) }
 {
     let w = place_value(k);
-    let both = bit(left) + 2 * bit(right);
-    ((old as u64) % w + both * w) as u8
+    let both = u64::from(left) + 2 * u64::from(right);
+    (u64::from(old) % w + both * w) as u8
 }
 
 // The control bits of level k into their byte.
@@ -83,25 +78,20 @@ fn write_key(
     ensures { out.new ≡ overlay (public_share n (key_correction (scheme e) weight (bit_of (unpack n string.now)) seed0 seed1))
         out.old }
 {
-    let mut nodes = Nodes {
-        node0: Node {
-            seed: seed0,
-            bit: false,
-        },
-        node1: Node {
-            seed: seed1,
-            bit: true,
-        },
+    let root0 = Node {
+        seed: seed0,
+        bit: false,
     };
-    let mut k: u16 = 0;
-    while k < n {
-        let level = next_level(e, weight, bit_at(string, k as usize), nodes);
-        let word = level.word;
+    let root1 = Node {
+        seed: seed1,
+        bit: true,
+    };
+    let mut nodes = (root0, root1);
+    for k in 0..n {
+        let (word, next) = next_level(e, weight, bit_at(string, k as usize), nodes);
         put_control(out, k, word.left, word.right);
         put_word(out, level_start(n, k), word);
-        let next = level.next;
         nodes = next;
-        k += 1;
     }
 }
 
@@ -110,38 +100,38 @@ fn wrong_lengths(n: u16, string: &[u8], seed0: &[u8], seed1: &[u8]) -> bool
     ensures { result ≡ (not (eqb (length string.now) (packed_length n)) || (not (eqb (length seed0.now) 16) || not
         (eqb (length seed1.now) 16))) }
 {
-    if string.len() != packed_length(n as usize) {
-        return true;
-    }
-    if seed0.len() != 16 {
-        return true;
-    }
-    seed1.len() != 16
+    string.len() != packed_length(n as usize) || seed0.len() != 16 || seed1.len() != 16
 }
 
-// The number of the first cause that applies, or 0.
-fn key_cause(n: u64, expander: u64, string: &[u8], seed0: &[u8], seed1: &[u8], room: usize) -> u64
-    ensures { result ≡ number_due (key_causes n expander string.now seed0.now seed1.now room) }
+// The expander that the number names, where no cause applies; else the first that does.
+fn check(
+    n: u64,
+    expander: u64,
+    string: &[u8],
+    seed0: &[u8],
+    seed1: &[u8],
+    room: usize,
+) -> Result<Expander, Refusal>
+    ensures number { number_in result ≡ number_due (key_causes n expander string.now seed0.now seed1.now room) }
+    ensures chosen { IfOk result (λ e. choice_of expander ≡ Some e) }
 {
     if calls::length_outside(n) {
-        return 1;
+        return Err(Refusal::StringLength);
     }
-    if !expander::is_expander(expander) {
-        return 3;
-    }
+    let e = Expander::try_from(expander)?;
     let levels = n as u16;
     let wrong = wrong_lengths(levels, string, seed0, seed1);
     let clear = spare_zero(string, levels as usize);
     if wrong {
-        return 4;
+        return Err(Refusal::Lengths);
     }
     if !clear {
-        return 7;
+        return Err(Refusal::SpareBits);
     }
     if room < public_share_length(levels) {
-        return 11;
+        return Err(Refusal::NoSpace);
     }
-    0
+    Ok(e)
 }
 
 // Writes the public share of a string of n bits with a weight; refuses with 1, 3, 4, 7 or 11.
@@ -153,33 +143,19 @@ pub fn make_key(
     seed0: &[u8],
     seed1: &[u8],
     out: &mut [u8],
-) -> Reply
-    ensures { left result out.new ≡ key_exit n expander weight string.now seed0.now seed1.now out.old }
+) -> Result<u64, Refusal>
+    ensures { answered result out.new ≡ key_exit n expander weight string.now seed0.now seed1.now out.old }
 {
-    let number = key_cause(n, expander, string, seed0, seed1, out.len());
-    if number != 0 {
-        return Reply { number, length: 0 };
-    }
-    match expander::choose(expander) {
-        Choice::Known(e) => {
-            let levels = n as u16;
-            write_key(
-                e,
-                levels,
-                from_signed(weight),
-                string,
-                read16(seed0, 0),
-                read16(seed1, 0),
-                out,
-            );
-            Reply {
-                number: 0,
-                length: public_share_length(levels) as u64,
-            }
-        }
-        Choice::Unknown => Reply {
-            number: 3,
-            length: 0,
-        },
-    }
+    let e = check(n, expander, string, seed0, seed1, out.len())?;
+    let levels = n as u16;
+    write_key(
+        e,
+        levels,
+        from_signed(weight),
+        string,
+        read16(seed0, 0),
+        read16(seed1, 0),
+        out,
+    );
+    Ok(public_share_length(levels) as u64)
 }

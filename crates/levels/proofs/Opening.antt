@@ -107,8 +107,8 @@ module _ (enough : ℕ → Bool) (T : Bits → ℕ) (C n : ℕ) (some : 1 ≤ n)
         let r : 0 + length (heading C) + length (query 0 cs) ≤ length d = omega (arith, heading_length_lem C, first_size) in
         f ∙ ap (λ (i : ℕ). put_at d₀ i (query 0 cs)) place ∙ put_at_more d 0 (heading C) (query 0 cs) r
 
-    pub first_asked : n ≤ 256 → ((1 ≤ n) × (n ≤ 256) × (14 + 2 * packed_length 1 + 8 * 2 ≤ length d₁) × (◌≡◌ {A = ℕ} (2 % 2) 0)) × Packed 1 (parts (packed_length 1) 2 (drop 14 d₁))
-    first_asked h = ((some, h, omega (arith, area_length), refl), query_packed 0 cs (refl, (refl, tt)) d₀ heading_length query_room d₁ f 1 2 refl refl)
+    pub first_asked : ((1 ≤ n) × (14 + 2 * packed_length 1 + 8 * 2 ≤ length d₁) × (◌≡◌ {A = ℕ} (2 % 2) 0)) × Packed 1 (parts (packed_length 1) 2 (drop 14 d₁))
+    first_asked = ((some, omega (arith, area_length), refl), query_packed 0 cs (refl, (refl, tt)) d₀ heading_length query_room d₁ f 1 2 refl refl)
 
     first_strings : strings_at 1 2 14 d₁ ≡ cs
     first_strings = query_strings 0 cs (refl, (refl, tt)) d₀ heading_length query_room d₁ f 1 2 refl refl

@@ -14,7 +14,6 @@ use Rattle.bits.specs.Strings.{Bits}
 use Rattle.bits.specs.Packing.{packed_length}
 use Rattle.places.specs.Places.{put_at}
 use Rattle.places.proofs.Places.{put_at_length}
-use Rattle.expander.specs.declared.Expander.{Expander}
 use Rattle.group.specs.Modular.{p}
 use Rattle.group.proofs.Modular.{field_laws}
 use Rattle.query.specs.Query.{OfLength, packs, query, parts, children}
@@ -23,23 +22,54 @@ use Rattle.places.proofs.Lists.{and_left, and_right, select_length, number_le}
 use Rattle.query.proofs.Children.{children_length, children_longer}
 use Rattle.query.proofs.Pieces.{strings_at, strings_length}
 use Rattle.query.proofs.Queries.{packs_length}
-use Rattle.levels.specs.Levels.{total_of}
+use Rattle.kept.specs.Kept.{reaches_by}
+use Rattle.levels.specs.Levels.{total_in}
+use Rattle.levels.specs.declared.Search.{Search}
 use Rattle.tree.proofs.Levels.{reaching_at, Packed, Listed, AnsweredBelow}
 use Rattle.levels.proofs.Reading.{same_parts, reaching_kept, kept_bits, query_strings, query_packed}
 use Rattle.levels.proofs.Below.{last_answered, ended_answered, next_size_lem, next_refused, next_answered}
 
 -- a total is below p, and so fits 8 bytes
-pub total_small : (e : Expander) (n : ℕ) (seeds0 shares0 seeds1 shares1 : List ℕ) (q : Bits) → total_of e n seeds0 shares0 seeds1 shares1 q < 256 ^ 8
-total_small e n seeds0 shares0 seeds1 shares1 q = let h : total_of e n seeds0 shares0 seeds1 shares1 q < p = field_laws.in_add _ _ in omega arith
+total_small : (s : Search) (q : Bits) → total_in s q < 256 ^ 8
+total_small s q = let h : total_in s q < p = field_laws.in_add _ _ in omega arith
 
 nothing : (qs : List Bits) → length qs ≡ 0 → qs ≡ []
 nothing [] h = refl
 nothing (q ∷ qs) h = absurd (omega arith)
 
-module _ (enough : ℕ → Bool) (T : Bits → ℕ) (small : (q : Bits) → T q < 256 ^ 8) (n k count from : ℕ) (d l : List ℕ)
-    (room : from + count * packed_length k + 8 * count ≤ length d) (place : ℕ) (e : place ≡ from + count * packed_length k)
-    (d₁ : List ℕ) (f : d₁ ≡ put_at d place (totals T (strings_at k count from d)))
-    (kept : ℕ) (g : kept ≡ how_many (is_kept enough T) (strings_at k count from d)) where
+-- The level of the query for `count` prefixes of k bits, from place `from` of the area d on, of a search for strings of n bits: the totals stand from
+-- `place` on, which makes it d₁, and `kept` of the prefixes are kept.
+pub record Totalled (s : Search) (k count from : ℕ) (d : List ℕ) (place : ℕ) (d₁ : List ℕ) (kept : ℕ) : Type 0 where
+  pub room_lem : from + count * packed_length k + 8 * count ≤ length d
+  pub at : place ≡ from + count * packed_length k
+  pub written : d₁ ≡ put_at d place (totals (total_in s) (strings_at k count from d))
+  pub counted : kept ≡ how_many (is_kept (reaches_by s.rule) (total_in s)) (strings_at k count from d)
+
+module _ {s : Search} {k count from : ℕ} {d : List ℕ} {place : ℕ} {d₁ : List ℕ} {kept : ℕ} (t : Totalled s k count from d place d₁ kept) (l : List ℕ) where
+  abbrev enough : ℕ → Bool
+  enough = reaches_by s.rule
+
+  abbrev T : Bits → ℕ
+  T = total_in s
+
+  abbrev n : ℕ
+  n = s.last + 1
+
+  small : (q : Bits) → T q < 256 ^ 8
+  small = total_small s
+
+  room : from + count * packed_length k + 8 * count ≤ length d
+  room = t.room_lem
+
+  e : place ≡ from + count * packed_length k
+  e = t.at
+
+  f : d₁ ≡ put_at d place (totals T (strings_at k count from d))
+  f = t.written
+
+  g : kept ≡ how_many (is_kept enough T) (strings_at k count from d)
+  g = t.counted
+
   abbrev qs : List Bits
   qs = strings_at k count from d
 
@@ -128,13 +158,11 @@ module _ (enough : ℕ → Bool) (T : Bits → ℕ) (small : (q : Bits) → T q 
         next_strings : strings_at (k + 1) (2 * kept) (place + 8 * count + 6) d₂ ≡ children ps
         next_strings = query_strings k (children ps) long d₁ (place + 8 * count) query_room d₂ asked (k + 1) (2 * kept) (add-one k) twice
 
-        pub level_asked : n ≤ 256
-            → ((k + 1 ≤ n) × (n ≤ 256) × (place + 8 * count + 6 + 2 * kept * packed_length (k + 1) + 8 * (2 * kept) ≤ length d₂) × (2 * kept % 2 ≡ 0))
+        pub level_asked : ((k + 1 ≤ n) × (place + 8 * count + 6 + 2 * kept * packed_length (k + 1) + 8 * (2 * kept) ≤ length d₂) × (2 * kept % 2 ≡ 0))
             × Packed (k + 1) (parts (packed_length (k + 1)) (2 * kept) (drop (place + 8 * count + 6) d₂))
-        level_asked h = (
+        level_asked = (
           (
             omega arith,
-            h,
             omega (arith, next_room, area_length, ap length asked, put_at_length d₁ (place + 8 * count) (query k (children ps)), mul-add (2 * kept) (packed_length (k + 1)) 8),
             omega arith,
           ),

@@ -4,15 +4,16 @@ ghost use Rattle.bits.specs.Packing.{packed_length};
 ghost use Rattle.kept.specs.Kept.{reaches_by};
 ghost use Rattle.query.proofs.Pieces.{strings_at};
 ghost use Rattle.query.specs.Query.{packs, parts};
-ghost use Rattle.levels.specs.Levels.{total_of};
-ghost use Rattle.tree.proofs.Levels.{reaching_at, Packed, Listed, AnsweredBelow};
+ghost use Rattle.calls.specs.Refusals.{number_in};
+ghost use Rattle.levels.specs.Levels.{total_in, record_in, list_in};
+ghost use Rattle.levels.specs.LevelRead.{reaching_in};
+ghost use Rattle.tree.proofs.Levels.{Packed, Listed, AnsweredBelow};
 
-use crate::LevelsReply;
 use crate::children::write_next;
 use crate::heavy::write_list;
-use crate::sums::write_totals;
+use crate::{Lengths, Level, Search};
 use bits::packed_length;
-use expander::Expander;
+use calls::Refusal;
 use kept::Rule;
 
 // Whether the children of `kept` prefixes of k bits are within the limit, and their query and totals fit into `room` places from `end` on.
@@ -24,103 +25,74 @@ fn next_fits(room: usize, end: usize, k: usize, kept: usize) -> bool
         return false;
     }
     let need = 6 + 2 * kept * (packed_length(k + 1) + 8);
-    if room < need {
-        return false;
-    }
-    end <= room - need
+    need <= room && end <= room - need
 }
 
-// The end of a search at prefixes of k bits whose totals are written: the `kept` of them that are kept are the list, if it fits.
+// The end of a search at a level whose totals are written: the `kept` of its prefixes that are kept are the list, if it fits.
 fn finish(
     rule: Rule,
     area: &[u8],
     list: &mut [u8],
-    k: usize,
-    count: usize,
-    from: usize,
-    place: usize,
+    level: Level,
     kept: usize,
-) -> LevelsReply
-    requires k_in_bounds { (from + count * packed_length k ≤ length area.now) × (place + 8 * count ≤ length area.now) × (kept ≤ count) }
-    requires packed { Packed k (parts (packed_length k) count (drop from area.now)) }
-    requires k_value { kept * packed_length k ≡ length (packs (reaching_at (reaches_by rule) k area.now count from place)) }
-    ensures { Listed (packs (reaching_at (reaches_by rule) k area.now count from place)) list.old list.new
-        (place + 8 * count) result.number result.record_length result.list_length }
+) -> Result<Lengths, Refusal>
+    requires in_bounds { (level.from + level.count * packed_length level.k ≤ length area.now) × (level.place + 8 * level.count ≤ length area.now)
+        × (kept ≤ level.count) }
+    requires packed { Packed level.k (parts (packed_length level.k) level.count (drop level.from area.now)) }
+    requires kept_value { kept * packed_length level.k ≡ length (packs (reaching_in rule level area.now)) }
+    ensures { Listed (packs (reaching_in rule level area.now)) list.old list.new (level.place + 8 * level.count)
+        (number_in result) (record_in result) (list_in result) }
 {
-    let size = kept * packed_length(k);
+    let size = kept * packed_length(level.k as usize);
     if list.len() < size {
-        return LevelsReply {
-            number: 11,
-            record_length: 0,
-            list_length: 0,
-        };
+        return Err(Refusal::NoSpace);
     }
-    write_list(rule, area, k, count, from, place, list);
-    LevelsReply {
-        number: 0,
-        record_length: (place + 8 * count) as u64,
-        list_length: size as u64,
-    }
+    write_list(rule, area, level, list);
+    Ok(Lengths {
+        record: (level.place + 8 * level.count) as u64,
+        list: size as u64,
+    })
 }
 
-// The search from its query for `count` prefixes of k bits on, which stand from place `from` on: their totals, and then the list, the end, or the next
-// query and the search from there.
-pub(crate) fn descend(
-    e: Expander,
-    n: u16,
-    rule: Rule,
-    seeds0: &[u8],
-    shares0: &[u8],
-    seeds1: &[u8],
-    shares1: &[u8],
-    area: &mut [u8],
-    list: &mut [u8],
-    k: u16,
-    count: usize,
-    from: usize,
-) -> LevelsReply
-    requires k_le_n { (k ≤ n) × (n ≤ 256) × (from + count * packed_length k + 8 * count ≤ length area.old) × (count % 2 ≡ 0) }
-    requires packed { Packed k (parts (packed_length k) count (drop from area.old)) }
-    ensures { AnsweredBelow (reaches_by rule) (total_of e n seeds0.now shares0.now seeds1.now shares1.now)
-        (n - k) k (strings_at k count from area.old) (from + count * packed_length k) area.old list.old area.new
-        list.new result.number result.record_length result.list_length }
-{
-    let bits = k as usize;
-    let place = from + count * packed_length(bits);
-    let kept = write_totals(
-        e, n, rule, seeds0, shares0, seeds1, shares1, area, k, count, from, place,
-    );
-    if k == n {
-        return finish(rule, area, list, bits, count, from, place, kept);
-    }
-    let end = place + 8 * count;
-    if kept == 0 {
-        return LevelsReply {
-            number: 0,
-            record_length: end as u64,
-            list_length: 0,
+impl Search<'_> {
+    // The search from its query for `count` prefixes of k bits on, which stand from place `from` on: their totals, and then the list, the end, or the
+    // next query and the search from there.
+    pub(crate) fn descend(
+        self,
+        area: &mut [u8],
+        list: &mut [u8],
+        k: u16,
+        count: usize,
+        from: usize,
+    ) -> Result<Lengths, Refusal>
+        requires k_le_n { (k ≤ self.last + 1) × (from + count * packed_length k + 8 * count ≤ length area.old) × (count % 2 ≡ 0) }
+        requires packed { Packed k (parts (packed_length k) count (drop from area.old)) }
+        ensures { AnsweredBelow (reaches_by self.entry.rule) (total_in self.entry)
+            (self.entry.last + 1 - k) k (strings_at k count from area.old) (from + count * packed_length k) area.old list.old area.new
+            list.new (number_in result) (record_in result) (list_in result) }
+    {
+        let place = from + count * packed_length(k as usize);
+        let level = Level {
+            k,
+            count,
+            from,
+            place,
         };
+        let kept = self.write_totals(area, level);
+        if k == self.n() {
+            return finish(self.rule, area, list, level, kept);
+        }
+        let end = place + 8 * count;
+        if kept == 0 {
+            return Ok(Lengths {
+                record: end as u64,
+                list: 0,
+            });
+        }
+        if !next_fits(area.len(), end, k as usize, kept) {
+            return Err(Refusal::NoSpace);
+        }
+        write_next(self.rule, area, level, end, kept);
+        self.descend(area, list, k + 1, 2 * kept, end + 6)
     }
-    if !next_fits(area.len(), end, bits, kept) {
-        return LevelsReply {
-            number: 11,
-            record_length: 0,
-            list_length: 0,
-        };
-    }
-    write_next(rule, area, bits, count, from, place, end, kept);
-    descend(
-        e,
-        n,
-        rule,
-        seeds0,
-        shares0,
-        seeds1,
-        shares1,
-        area,
-        list,
-        k + 1,
-        2 * kept,
-        end + 6,
-    )
 }

@@ -1,16 +1,15 @@
 // All levels of a search, and the zeroing of an area.
-ghost use Rattle.std.specs.Prelude.{◌≡◌, ◌/◌, ◌≤◌, length, replicate};
+ghost use Rattle.std.specs.Prelude.{◌≡◌, ◌+◌, ◌/◌, length};
 ghost use Rattle.places.specs.Places.{put_at};
 ghost use Rattle.kept.specs.Kept.{reaches_by};
 ghost use Rattle.query.specs.Query.{query, children};
 ghost use Rattle.tree.specs.SearchRule.{start, heading, heading_length};
-ghost use Rattle.levels.specs.Levels.{total_of};
+ghost use Rattle.levels.specs.Levels.{total_in, record_in, list_in};
+ghost use Rattle.calls.specs.Refusals.{number_in};
 ghost use Rattle.tree.proofs.Levels.{AnsweredAll};
 
-use crate::LevelsReply;
-use crate::descent::descend;
-use expander::Expander;
-use kept::Rule;
+use crate::{Lengths, Search};
+use calls::Refusal;
 use numbers::write_be8;
 use places::copy;
 use tree::HEADING_LENGTH;
@@ -35,55 +34,17 @@ fn write_first(area: &mut [u8], at: usize)
     copy(&first, area, at);
 }
 
-// The levels of a search: the number of reports and the first query, where they and its two totals fit, and the levels from it down.
-pub(crate) fn all_levels(
-    e: Expander,
-    n: u16,
-    rule: Rule,
-    seeds0: &[u8],
-    shares0: &[u8],
-    seeds1: &[u8],
-    shares1: &[u8],
-    area: &mut [u8],
-    list: &mut [u8],
-) -> LevelsReply
-    requires { (1 ≤ n) × (n ≤ 256) }
-    ensures { AnsweredAll (reaches_by rule) (total_of e n seeds0.now shares0.now seeds1.now shares1.now)
-        (length seeds0.now / 16) n area.old list.old area.new list.new result.number
-        result.record_length result.list_length }
-{
-    if area.len() < HEADING_LENGTH + FIRST_LEVEL {
-        return LevelsReply {
-            number: 11,
-            record_length: 0,
-            list_length: 0,
-        };
-    }
-    let at = write_heading(area, (seeds0.len() / 16) as u64);
-    write_first(area, at);
-    descend(
-        e,
-        n,
-        rule,
-        seeds0,
-        shares0,
-        seeds1,
-        shares1,
-        area,
-        list,
-        1,
-        2,
-        at + 6,
-    )
-}
-
-// Makes every byte zero.
-pub(crate) fn clear(area: &mut [u8])
-    ensures { area.new ≡ replicate (length area.old) 0 }
-{
-    let mut i = 0;
-    while i < area.len() {
-        area[i] = 0;
-        i += 1;
+impl Search<'_> {
+    // The levels of a search: the number of reports and the first query, where they and its two totals fit, and the levels from it down.
+    pub(crate) fn all_levels(self, area: &mut [u8], list: &mut [u8]) -> Result<Lengths, Refusal>
+        ensures { AnsweredAll (reaches_by self.entry.rule) (total_in self.entry) (length self.entry.seeds0.now / 16) (self.entry.last + 1)
+            area.old list.old area.new list.new (number_in result) (record_in result) (list_in result) }
+    {
+        if area.len() < HEADING_LENGTH + FIRST_LEVEL {
+            return Err(Refusal::NoSpace);
+        }
+        let at = write_heading(area, (self.seeds0.len() / 16) as u64);
+        write_first(area, at);
+        self.descend(area, list, 1, 2, at + 6)
     }
 }

@@ -1,12 +1,12 @@
 -- The turns that write a list at the roots, and the list after all of them.
-use Prim.Native.Nat.{ℕ, zero, suc, ◌+◌, ◌-◌, ◌*◌, ◌/◌, ◌≤◌, ◌<◌}
+use Prim.Native.Nat.{ℕ, zero, suc, ◌+◌, ◌*◌, ◌/◌, ◌≤◌, ◌<◌}
 use native.Mathlib.Omega.{arith}
 use native.Mathlib.Decide.{ℕ_discrete}
 use native.Mathlib.Nat.{mul-one}
 use mathlib.Core.Path.{◌≡◌, refl, sym, ap, ◌∙◌}
 use mathlib.Core.Bool.{Bool, false, cond}
 use mathlib.Core.List.{List, [], map}
-use borrow.Author.Tests.{eq-eqb, ne_eqb, lt-ltb, ltb-false}
+use borrow.Author.Tests.{eq-eqb, ne_eqb, ltb-false}
 use lib.ListN.{length, get_or, set, length-set, length-map, get_or-map}
 use lib.Seq.{get_or-set_same, get_or-set_other}
 use Rattle.places.specs.Places.{window, overlay}
@@ -18,45 +18,32 @@ use Rattle.nodes.specs.NodeLayout.{node_of}
 use Rattle.report_sums.specs.Reports.{seed_at}
 use Rattle.node_lists.specs.NodeList.{no_node}
 use Rattle.node_lists.specs.Roots.{roots, roots_causes, roots_number, roots_after}
-use Rattle.node_lists.specs.declared.Filling.{Filling}
-use Rattle.node_lists.specs.Filling.{filling_first, root_node, filling_next, filling_at, filled_at}
+use Rattle.node_lists.specs.Filling.{root_node, filled_at}
 use Rattle.node_lists.proofs.Overlaid.{overlaid}
 use Rattle.node_lists.proofs.ByReport.{by_report_length, by_report_at}
 
 -- ---- any turns
 
-module _ (b : Bool) (seeds : List ℕ) (p : Filling) where
-  pub filling_left : (s : ℕ) → (filling_at b seeds p s).left ≡ p.left - s
-  unfolding filling_at filling_next
-  filling_left zero = omega arith
-  filling_left (suc s) = omega (arith, filling_left s)
-
-  pub filled_length : (l : List Node) (s : ℕ) → length (filled_at b seeds p l s) ≡ length l
+module _ (b : Bool) (seeds : List ℕ) where
+  pub filled_length : (l : List Node) (s : ℕ) → length (filled_at b seeds l s) ≡ length l
   unfolding filled_at
   filled_length l zero = refl
-  filled_length l (suc s) = length-set (filled_at b seeds p l s) _ _ ∙ filled_length l s
-
-  -- as long as the places stay in their field, turn s writes place s
-  pub filling_next_lem : p.next ≡ 0 → (s : ℕ) → s ≤ 65535 → (filling_at b seeds p s).next ≡ s
-  unfolding filling_at filling_next
-  filling_next_lem e zero h = e
-  filling_next_lem e (suc s) h = let i : (filling_at b seeds p s).next ≡ s = filling_next_lem e s (omega arith) in rw (i, lt-ltb s 65535 h)
+  filled_length l (suc s) = length-set (filled_at b seeds l s) _ _ ∙ filled_length l s
 
   -- the first s places are written, the others are as they were
   pub record Written (old : List Node) (s : ℕ) (l : List Node) : Type 0 where
     pub written : (x : ℕ) → x < s → (d : Node) → get_or l x d ≡ record { seed = window 16 (16 * x) seeds; bit = b }
     pub spare : (x : ℕ) → s ≤ x → (d : Node) → get_or l x d ≡ get_or old x d
 
-  pub filled_written : p.next ≡ 0 → (l : List Node) (s : ℕ) → s ≤ 65535 → s ≤ length l → Written l s (filled_at b seeds p l s)
+  pub filled_written : (l : List Node) (s : ℕ) → s ≤ length l → Written l s (filled_at b seeds l s)
   unfolding filled_at root_node
-  filled_written e l zero h k = record { written = λ x a d. absurd (omega arith); spare = λ x a d. refl }
-  filled_written e l (suc s) h k =
-      let at : (filling_at b seeds p s).next ≡ s = filling_next_lem e s (omega arith) in
-      let g : Written l s (filled_at b seeds p l s) = filled_written e l s (omega arith) (omega arith) in
+  filled_written l zero k = record { written = λ x a d. absurd (omega arith); spare = λ x a d. refl }
+  filled_written l (suc s) k =
+      let g : Written l s (filled_at b seeds l s) = filled_written l s (omega arith) in
       let v : Node = record { seed = window 16 (16 * s) seeds; bit = b } in
-      let m : List Node = filled_at b seeds p l s in
+      let m : List Node = filled_at b seeds l s in
       let size : length m ≡ length l = filled_length l s in
-      rw at (record {
+      record {
         written = λ x a d. elim (ℕ_discrete x s) [
           | yes q ↦
               ap (λ (y : ℕ). get_or (set m s v) y d) q ∙ get_or-set_same m s v d (omega arith)
@@ -64,40 +51,16 @@ module _ (b : Bool) (seeds : List ℕ) (p : Filling) where
           | no q ↦ get_or-set_other m s x v d q ∙ g.written x (omega arith) d
         ];
         spare = λ x a d. get_or-set_other m s x v d (λ q. omega arith) ∙ g.spare x (omega arith) d;
-      })
+      }
 
 -- ---- from the first turn
 
 module _ (b : Bool) (seeds : List ℕ) (l : List Node) where
-  abbrev p : Filling
-  p = filling_first seeds (length l)
-
-  first_next : p.next ≡ 0
-  unfolding filling_first
-  first_next = refl
-
-  refused_left : (roots_number seeds (length l) ≡ 0 → ⊥) → p.left ≡ 0
-  unfolding filling_first
-  refused_left h = rw (ne_eqb (roots_number seeds (length l)) 0 h)
-
-  accepted_left : roots_number seeds (length l) ≡ 0 → p.left ≡ length seeds / 16
-  unfolding filling_first
-  accepted_left h = rw (eq-eqb (roots_number seeds (length l)) 0 h)
-
-  -- no cause applies: not too many, and there is room
-  accepted_few : roots_number seeds (length l) ≡ 0 → (length seeds / 16 ≤ 65535) × (length seeds / 16 ≤ length l)
+  -- no cause applies: there is room
+  pub accepted_few : roots_number seeds (length l) ≡ 0 → length seeds / 16 ≤ length l
   accepted_few h =
       let c = number_clear (roots_causes seeds (length l)) (omega arith, (omega arith, (omega arith, tt))) h in
-      (ltb-false 65535 (length seeds / 16) c.1.0, ltb-false (length l) (length seeds / 16) c.1.1.0)
-
-  pub fill_within : (s : ℕ) → s < (filling_first seeds (length l)).left → (filling_at b seeds (filling_first seeds (length l)) s).next < length l
-  fill_within s h = elim (ℕ_discrete (roots_number seeds (length l)) 0) [
-    | yes z ↦
-        let few = accepted_few z in
-        let e = accepted_left z in
-        omega (arith, filling_next_lem b seeds p first_next s (omega arith))
-    | no z ↦ absurd (omega (arith, refused_left z))
-  ]
+      ltb-false (length l) (length seeds / 16) c.1.1.0
 
   roots_length : length (roots b seeds) ≡ length seeds / 16
   unfolding roots
@@ -111,32 +74,31 @@ module _ (b : Bool) (seeds : List ℕ) (l : List Node) where
       ∙ by_report_at (λ i q. record { seed = seed_at seeds i; bit = b }) start (length seeds / 16) i 0 h (omega arith)
       ∙ ap (λ (s : List ℕ). record { seed = s; bit = b }) (sym (window_inside 16 (16 * i) seeds (omega arith)))
 
-  accepted_roots : roots_number seeds (length l) ≡ 0 → map node_of (filled_at b seeds p l p.left) ≡ overlay (roots b seeds) (map node_of l)
+  accepted_roots : roots_number seeds (length l) ≡ 0 → map node_of (filled_at b seeds l (length seeds / 16)) ≡ overlay (roots b seeds) (map node_of l)
   accepted_roots z =
       let few = accepted_few z in
       let R : ℕ = length seeds / 16 in
-      let e : p.left ≡ R = accepted_left z in
-      let g : Written b seeds p l R (filled_at b seeds p l R) = filled_written b seeds p first_next l R few.0 few.1 in
-      let m : List Node = filled_at b seeds p l R in
-      let size : length m ≡ length l = filled_length b seeds p l R in
+      let g : Written b seeds l R (filled_at b seeds l R) = filled_written b seeds l R few in
+      let m : List Node = filled_at b seeds l R in
+      let size : length m ≡ length l = filled_length b seeds l R in
       let none : Node = record { seed = []; bit = false } in
       let root-count : length (roots b seeds) ≡ R = roots_length in
-      ap (λ (s : ℕ). map node_of (filled_at b seeds p l s)) e
-      ∙ overlaid (roots b seeds) (map node_of l) no_node (map node_of m)
+      overlaid (roots b seeds) (map node_of l) no_node (map node_of m)
       (length-map m node_of ∙ size ∙ sym (length-map l node_of))
-      (omega (arith, few.1, length-map l node_of))
+      (omega (arith, few, length-map l node_of))
       (λ i h. get_or-map node_of m i none ∙ ap node_of (g.written i (omega arith) none) ∙ sym (root_at i (omega arith)))
       (λ i h. get_or-map node_of m i none ∙ ap node_of (g.spare i (omega arith) none) ∙ sym (get_or-map node_of l i none))
 
   -- the list after all turns is the one at the roots
-  pub roots_folded : map node_of (filled_at b seeds (filling_first seeds (length l)) l (filling_first seeds (length l)).left) ≡ roots_after b seeds (map node_of l)
-  unfolding roots_after filled_at
-  roots_folded = elim (ℕ_discrete (roots_number seeds (length l)) 0) [
-    | yes z ↦
-        let k : roots_number seeds (length (map node_of l)) ≡ 0 = ap (roots_number seeds) (length-map l node_of) ∙ z in
-        accepted_roots z ∙ sym (ap (λ (c : Bool). overlay (cond c (roots b seeds) []) (map node_of l)) (eq-eqb _ 0 k))
-    | no z ↦
-        let k : roots_number seeds (length (map node_of l)) ≡ 0 → ⊥ = λ q. z (sym (ap (roots_number seeds) (length-map l node_of)) ∙ q) in
-        ap (λ (s : ℕ). map node_of (filled_at b seeds p l s)) (refused_left z)
-        ∙ sym (ap (λ (c : Bool). overlay (cond c (roots b seeds) []) (map node_of l)) (ne_eqb _ 0 k) ∙ overlay_nil (map node_of l))
-  ]
+  pub roots_folded : roots_number seeds (length l) ≡ 0 → map node_of (filled_at b seeds l (length seeds / 16)) ≡ roots_after b seeds (map node_of l)
+  unfolding roots_after
+  roots_folded z =
+      let k : roots_number seeds (length (map node_of l)) ≡ 0 = ap (roots_number seeds) (length-map l node_of) ∙ z in
+      accepted_roots z ∙ sym (ap (λ (c : Bool). overlay (cond c (roots b seeds) []) (map node_of l)) (eq-eqb _ 0 k))
+
+  -- a refusal leaves the list as it was
+  pub roots_refused : (roots_number seeds (length l) ≡ 0 → ⊥) → map node_of l ≡ roots_after b seeds (map node_of l)
+  unfolding roots_after
+  roots_refused z =
+      let k : roots_number seeds (length (map node_of l)) ≡ 0 → ⊥ = λ q. z (sym (ap (roots_number seeds) (length-map l node_of)) ∙ q) in
+      sym (ap (λ (c : Bool). overlay (cond c (roots b seeds) []) (map node_of l)) (ne_eqb _ 0 k) ∙ overlay_nil (map node_of l))

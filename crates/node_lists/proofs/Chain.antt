@@ -13,7 +13,7 @@ use Rattle.places.specs.Places.{overlay}
 use Rattle.bits.specs.Strings.{Bits}
 use Rattle.expander.specs.Expander.{choice_of}
 use Rattle.expander.specs.declared.Expander.{Expander}
-use Rattle.expander.specs.declared.Choice.TheVariants.{Known}
+use Rattle.std.specs.Prelude.{Some}
 use Rattle.point.specs.Node.{Node}
 use Rattle.point.specs.Evaluation.{bit_of, node}
 use Rattle.point.specs.PublicShare.{read_correction}
@@ -147,7 +147,7 @@ module _ (s : Session) where
 
   -- ---- call after call
 
-  pub reached_stands : (e : Expander) → choice_of s.expander ≡ Known e → {last : List ℕ} {nodes : List Node} → Reached s last nodes → Stands e last nodes
+  pub reached_stands : (e : Expander) → choice_of s.expander ≡ Some e → {last : List ℕ} {nodes : List Node} → Reached s last nodes → Stands e last nodes
   reached_stands e named (at_roots nodes h) = roots_stand e nodes h
   reached_stands e named (after last query nodes left area r h same) =
       let c : KeptLent = call s last query nodes area in
@@ -156,6 +156,6 @@ module _ (s : Session) where
       (same ∙ ap (take (reports * length (prefixes_of query))) (nodes_accepted c e named h))
 
 -- 'the seed and control bit for each report at each prefix of the last query', 'report by report, prefixes in query order'
-pub reached_nodes : (s : Session) (e : Expander) (last : List ℕ) (nodes : List Node) → choice_of s.expander ≡ Known e → Reached s last nodes
+pub reached_nodes : (s : Session) (e : Expander) (last : List ℕ) (nodes : List Node) → choice_of s.expander ≡ Some e → Reached s last nodes
     → take (share_count s.n s.shares * length (last_prefixes last)) nodes ≡ report_by_report (share_count s.n s.shares) (walked_node s e) (last_prefixes last)
 reached_nodes s e last nodes named r = (reached_stands s e named r).stand

@@ -19,8 +19,7 @@ use Rattle.calls.proofs.Decisions.{neither, bounds}
 use Rattle.calls.proofs.Judged.{Clear, judged_due, judged_refused, judged_accepted, judged_clear}
 use Rattle.expander.specs.Expander.{is_expander, choice_of, under}
 use Rattle.expander.specs.declared.Expander.{Expander}
-use Rattle.expander.specs.declared.Choice.{Choice}
-use Rattle.expander.specs.declared.Choice.TheVariants.{Known, Unknown}
+use Rattle.std.specs.Prelude.{Option, Some, None}
 use Rattle.expander.proofs.Chosen.{unknown}
 use Rattle.group.specs.Modular.{p}
 use Rattle.point.specs.Node.{Node}
@@ -63,7 +62,7 @@ pub record Ready (n e : ℕ) (shares last query : List ℕ) (count room : ℕ) :
   pub some_bits : 1 ≤ n
   pub not_longer : n ≤ 256
   pub expander : Expander
-  pub chosen : choice_of e ≡ Known expander
+  pub chosen : choice_of e ≡ Some expander
   pub whole_shares : length shares ≡ public_share_length n * share_count n shares
   pub few : share_count n shares ≤ most_reports
   pub payloads : (i : ℕ) → i < share_count n shares → payloads_below p n (public_share_at n shares i) ≡ true
@@ -80,12 +79,12 @@ whole : (len w : ℕ) → len % w ≡ 0 → len ≡ w * (len / w)
 whole len w h = omega (arith, div-add-mod' len w, mul_comm w (len / w))
 
 -- a number that names an expander
-named : (e : ℕ) → is_expander e ≡ true → (x : Expander) × (choice_of e ≡ Known x)
+named : (e : ℕ) → is_expander e ≡ true → (x : Expander) × (choice_of e ≡ Some x)
 named e h = go (choice_of e) refl
   where
-    go : (c : Choice) → choice_of e ≡ c → (x : Expander) × (choice_of e ≡ Known x)
-    go (Known x) k = (x, k)
-    go Unknown k = absurd (true≢false (sym h ∙ unknown e k))
+    go : (c : Option Expander) → choice_of e ≡ c → (x : Expander) × (choice_of e ≡ Some x)
+    go (Some x) k = (x, k)
+    go None k = absurd (true≢false (sym h ∙ unknown e k))
 
 module _ (n e : ℕ) (shares last query : List ℕ) (count room : ℕ) where
   pub clear_ready : Clear (kept_causes n e shares last query count room) → Ready n e shares last query count room
@@ -123,19 +122,19 @@ module _ (s : KeptLent) where
   pub kept_ready : (kept_outcome s).number ≡ 0 → ReadyFor
   kept_ready h = clear_ready s.n s.expander s.shares s.last s.query (length s.nodes) (length s.area) (kept_clear h)
 
-  module _ (x : Expander) (c : choice_of s.expander ≡ Known x) where
+  module _ (x : Expander) (c : choice_of s.expander ≡ Some x) where
     pub kept_accepted : (kept_outcome s).number ≡ 0
         → kept_outcome s ≡ accepted (kept_share s.n s.shares s.last s.nodes x s.server s.query)
     unfolding kept_outcome
     kept_accepted h =
         let f : Expander → List ℕ = λ e. kept_share s.n s.shares s.last s.nodes e s.server s.query in
-        judged_accepted (causes_of s) _ (kept_clear h) ∙ ap (λ (o : Choice). accepted (under o f)) c
+        judged_accepted (causes_of s) _ (kept_clear h) ∙ ap (λ (o : Option Expander). accepted (under o f)) c
 
     pub nodes_accepted : (kept_outcome s).number ≡ 0 → nodes_after s ≡ overlay (new_nodes s.n s.shares s.last s.nodes x s.query) s.nodes
     unfolding nodes_after
     nodes_accepted h =
         let f : Expander → List Node = λ e. new_nodes s.n s.shares s.last s.nodes e s.query in
-        rw (eq-eqb (kept_outcome s).number 0 h) (ap (λ (o : Choice). overlay (under o f) s.nodes) c)
+        rw (eq-eqb (kept_outcome s).number 0 h) (ap (λ (o : Option Expander). overlay (under o f) s.nodes) c)
 
 -- as many new nodes as reports × prefixes
 pub new_nodes_length : (n : ℕ) (shares last : List ℕ) (nodes : List Node) (x : Expander) (query : List ℕ)

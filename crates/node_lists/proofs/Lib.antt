@@ -8,3 +8,4 @@ pub mod Following
 pub mod Examples
 pub mod Overlaid
 pub mod AtRoots
+pub mod Handed

@@ -1,9 +1,11 @@
 -- The call `share_kept`: document 02, [2], a server's share from kept nodes.
-use Rattle.std.specs.Prelude.{ℕ, ◌*◌, ◌%◌, ◌<◌, Bool, cond, not, ◌&&◌, ◌||◌, List, [], ◌∷◌, ◌≢◌, ◌⊎◌, length, eqb, ltb}
+use Rattle.std.specs.Prelude.{ℕ, ◌*◌, ◌%◌, ◌<◌, Bool, cond, not, ◌&&◌, ◌||◌, List, [], ◌∷◌, ◌≢◌, ◌⊎◌, length, eqb, ltb, Result, Ok, Err}
 use Rattle.places.specs.Places.{overlay}
 use Rattle.calls.specs.Bounds.{length_cause, expander_cause, reports_cause, space_cause}
 use Rattle.calls.specs.Causes.{Cause, cause}
 use Rattle.calls.specs.Outcome.{Outcome, judged}
+use Rattle.calls.specs.Refusals.{number_of}
+use Rattle.calls.specs.declared.Refusal.{Refusal}
 use Rattle.calls.specs.declared.Reply.{Reply}
 use Rattle.expander.specs.Expander.{choice_of, under}
 use Rattle.point.specs.Node.{Node}
@@ -79,6 +81,11 @@ kept_exit s = record {
   nodes = nodes_after s;
 }
 
--- what was returned, and the space and the nodes as they were left
+-- how many bytes were written, or the refusal, and the space and the nodes as they were left
+abbrev pub kept_answered : Result ℕ Refusal → List ℕ → List Node → KeptExit
+kept_answered (Ok length) area nodes = record { number = 0; length = length; area = area; nodes = nodes }
+kept_answered (Err refusal) area nodes = record { number = number_of refusal; length = 0; area = area; nodes = nodes }
+
+-- the same as C is told
 abbrev pub kept_left : Reply → List ℕ → List Node → KeptExit
 kept_left r area nodes = record { number = r.number; length = r.length; area = area; nodes = nodes }

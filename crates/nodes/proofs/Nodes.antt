@@ -6,6 +6,7 @@ use Prim.Native.Nat.{ℕ, ◌-◌, ◌%◌}
 use native.Mathlib.Omega.{arith}
 use lib.ListN.{get_or, set}
 use lib.Dec.{eqb}
+use mir.Val.{bool_byte}
 use Rattle.expander.specs.Expander.{block_of, xor_bytes}
 use Rattle.expander.specs.declared.Expander.{Expander}
 use Rattle.point.specs.Node.{Node, control_bit, cleared, child}
@@ -29,6 +30,11 @@ differ_xor true true = refl
 differ_xor true false = refl
 differ_xor false true = refl
 differ_xor false false = refl
+
+-- a bit as a number
+pub as_digit : (b : Bool) → bool_byte b ≡ digit b
+as_digit true = refl
+as_digit false = refl
 
 -- a node from its two parts
 pub same_node : {s s' : List ℕ} {b b' : Bool} → s ≡ s' → b ≡ b' → ◌≡◌ {A = Node} (record { seed = s; bit = b }) (record { seed = s'; bit = b' })

@@ -46,10 +46,7 @@ pub fn split(block: [u8; 16]) -> Node
 pub fn child(e: Expander, seed: [u8; 16], x: bool) -> Node
     ensures { node_of result ≡ child (scheme e) seed x }
 {
-    if x {
-        return split(expander::block(e, seed, 1));
-    }
-    split(expander::block(e, seed, 0))
+    split(expander::block(e, seed, u64::from(x)))
 }
 
 // A child with the seed and bit corrections XORed in where `on` is set.
@@ -59,9 +56,8 @@ pub fn corrected(on: bool, seed: [u8; 16], bit: bool, m: Node) -> Node
     if !on {
         return m;
     }
-    let s = m.seed;
     Node {
-        seed: expander::xor(s, seed),
+        seed: expander::xor(m.seed, seed),
         bit: m.bit ^ bit,
     }
 }
@@ -77,13 +73,12 @@ pub fn draw(block: [u8; 16]) -> u64
 pub fn public_share_length(n: u16) -> usize
     ensures { result ≡ public_share_length n }
 {
-    let levels = n as usize;
-    (levels + 3) / 4 + 24 * levels
+    level_start(n, n)
 }
 
 // Where level k of n begins.
 pub fn level_start(n: u16, k: u16) -> usize
     ensures { result ≡ level_start n k }
 {
-    (n as usize + 3) / 4 + 24 * (k as usize)
+    usize::from(n).div_ceil(4) + 24 * usize::from(k)
 }

@@ -1,2 +1,3 @@
 pub mod Endian
 pub mod Straight
+pub mod Library

@@ -10,23 +10,12 @@ use mathlib.Core.List.{List}
 use borrow.Author.Tests.{eqb-true, eqb-false}
 use lib.ListN.{get_or}
 use lib.Dec.{eqb}
+use Rattle.tree.proofs.Prefixes.{beq_eq, beq_refl}
 use Rattle.bits.specs.Packing.{bits_of}
 use Rattle.bits.proofs.Packed.{bit_of_lem}
 use Rattle.point.specs.PublicShare.{every}
 use Rattle.point.proofs.Joined.{every_true, every_fails, every_at}
 use Rattle.parents.specs.Lookup.{agree}
-
-pub beq_eq : (b c : Bool) → beq b c ≡ true → b ≡ c
-beq_eq true true e = refl
-beq_eq true false e = sym e
-beq_eq false true e = e
-beq_eq false false e = refl
-
-pub beq_refl : (b c : Bool) → b ≡ c → beq b c ≡ true
-beq_refl true true e = refl
-beq_refl true false e = sym e
-beq_refl false true e = e
-beq_refl false false e = refl
 
 -- the binary digit of weight 2 ^ e
 abbrev bit : ℕ → ℕ → Bool
@@ -69,7 +58,7 @@ module _ (k : ℕ) (a b : List ℕ) where
 
   pub agree_all : ((i : ℕ) → i < k → get_or (bits_of a) i false ≡ get_or (bits_of b) i false) → agree k a b ≡ true
   unfolding agree
-  agree_all h = every_true k same (λ i l. beq_refl _ _ (h i l))
+  agree_all h = every_true k same (λ i l. rw (h i l) (beq_refl _))
 
   pub agree_at : agree k a b ≡ true → (i : ℕ) → i < k → get_or (bits_of a) i false ≡ get_or (bits_of b) i false
   unfolding agree

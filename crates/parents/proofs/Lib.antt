@@ -1,5 +1,5 @@
-pub mod Counts
 pub mod Looking
+pub mod Found
 pub mod Agreeing
 pub mod Unparented
 pub mod Members

@@ -10,28 +10,6 @@ use Rattle.parents.specs.Lookup.{up_from, down_from, looked_up}
 module _ (f : ℕ → Bool) where
   -- ---- upwards
 
-  pub up_hit : (a m : ℕ) → f a ≡ true → up_from f a (suc m) ≡ a
-  unfolding up_from
-  up_hit a m e = rw e
-
-  pub up_miss : (a m : ℕ) → f a ≡ false → up_from f a (suc m) ≡ up_from f (suc a) m
-  unfolding up_from
-  up_miss a m e = rw e
-
-  -- one step of the loop
-  pub up_found : (a m : ℕ) → a < m → (r : Bool) → r ≡ f a → r ≡ true → up_from f a (m - a) ≡ a
-  up_found a m l r e h = let s : m - a ≡ suc (m - suc a) = omega arith in rw s (up_hit a (m - suc a) (sym e ∙ h))
-
-  pub up_on : (a m : ℕ) → a < m → (r : Bool) → r ≡ f a → r ≡ false → up_from f a (m - a) ≡ up_from f (a + 1) (m - (a + 1))
-  up_on a m l r e h =
-      let s : m - a ≡ suc (m - suc a) = omega arith in
-      let t : a + 1 ≡ suc a = omega arith in
-      rw (s, t) (up_miss a (m - suc a) (sym e ∙ h))
-
-  pub up_past : (a m : ℕ) → m ≤ a → up_from f a (m - a) ≡ a
-  unfolding up_from
-  up_past a m l = let s : m - a ≡ 0 = omega arith in rw s
-
   pub up_least : (m a : ℕ) → a ≤ up_from f a m
   unfolding up_from
   up_least zero a = omega arith
@@ -65,29 +43,6 @@ module _ (f : ℕ → Bool) where
           ih (omega arith) (omega arith) p
 
   -- ---- downwards
-
-  pub down_hit : (none a : ℕ) → f a ≡ true → down_from f none (suc a) ≡ a
-  unfolding down_from
-  down_hit none a e = rw e
-
-  pub down_miss : (none a : ℕ) → f a ≡ false → down_from f none (suc a) ≡ down_from f none a
-  unfolding down_from
-  down_miss none a e = rw e
-
-  -- one step of the loop
-  pub down_found : (none a : ℕ) → 0 < a → (r : Bool) → r ≡ f (a - 1) → r ≡ true → down_from f none a ≡ a - 1
-  down_found none a l r e h =
-      let s : a ≡ suc (a - 1) = omega arith in
-      ap (down_from f none) s ∙ down_hit none (a - 1) (sym e ∙ h)
-
-  pub down_on : (none a : ℕ) → 0 < a → (r : Bool) → r ≡ f (a - 1) → r ≡ false → down_from f none a ≡ down_from f none (a - 1)
-  down_on none a l r e h =
-      let s : a ≡ suc (a - 1) = omega arith in
-      ap (down_from f none) s ∙ down_miss none (a - 1) (sym e ∙ h)
-
-  pub down_end : (none a : ℕ) → a ≤ 0 → down_from f none a ≡ none
-  unfolding down_from
-  down_end none a l = let s : a ≡ 0 = omega arith in rw s
 
   pub down_passes : (none a : ℕ) → a ≤ none → down_from f none a < none → f (down_from f none a) ≡ true
   unfolding down_from

@@ -1,7 +1,7 @@
 // The last query and the parents of a new query's prefixes in it. Every published function answers for all inputs.
 #![tactic(auto)]
 
-ghost use Rattle.std.specs.Prelude.{◌≡◌, ◌-◌, ◌≤◌, ◌<◌, get_or, eqb};
+ghost use Rattle.std.specs.Prelude.{◌≡◌, ℕ, ◌-◌, ◌≤◌, ◌<◌, MatchOption, get_or, eqb};
 ghost use Rattle.point.specs.PublicShare.{every};
 ghost use Rattle.parents.specs.Parents.{is_last};
 ghost use Rattle.parents.specs.Lookup.{last_count, last_length, agree, is_parent, up_from, down_from, looked_up, unparented};
@@ -12,7 +12,7 @@ use places::{byte_at, wide};
 pub fn last_count(last: &[u8]) -> usize
     ensures { (result ≡ last_count last.now) × (result < 4294967296) }
 {
-    if last.len() == 0 {
+    if last.is_empty() {
         return 1;
     }
     query::prefix_count(last)
@@ -22,7 +22,7 @@ pub fn last_count(last: &[u8]) -> usize
 fn last_length(last: &[u8]) -> usize
     ensures { (result ≡ last_length last.now) × (result ≤ 65536) }
 {
-    if last.len() < 1 {
+    if last.is_empty() {
         return 0;
     }
     query::prefix_length(last)
@@ -32,24 +32,14 @@ fn last_length(last: &[u8]) -> usize
 pub fn is_last(n: u64, last: &[u8]) -> bool
     ensures { result ≡ is_last n last.now }
 {
-    if 0 < last.len() {
-        return query::is_query(n, last);
-    }
-    true
+    last.is_empty() || query::is_query(n, last)
 }
 
-// Whether the first w bytes agree.
+// Whether the first w bytes agree. No `==` of slices: a byte past the end counts as 0, and neighbours in a query differ in their last bytes.
 fn same_bytes(a: &[u8], b: &[u8], w: usize) -> bool
     ensures { result ≡ every w (λ i. eqb (get_or a.now i 0) (get_or b.now i 0)) }
 {
-    let mut from = w;
-    while 0 < from {
-        from -= 1;
-        if byte_at(a, from) != byte_at(b, from) {
-            return false;
-        }
-    }
-    true
+    (0..w).rev().all(|i| byte_at(a, i) == byte_at(b, i))
 }
 
 // Whether the first k bits agree.
@@ -58,57 +48,49 @@ fn same_bits(a: &[u8], b: &[u8], k: usize) -> bool
 {
     let whole = k / 8;
     let past = 8 - k % 8;
-    if wide(byte_at(a, whole)) >> past != wide(byte_at(b, whole)) >> past {
-        return false;
-    }
-    same_bytes(a, b, whole)
+    wide(byte_at(a, whole)) >> past == wide(byte_at(b, whole)) >> past && same_bytes(a, b, whole)
 }
 
-// The first place of the last query from `from` on, below m, where the first k bits of `child` stand; or the place after them.
-fn up_from(last: &[u8], m: usize, child: &[u8], k: usize, from: usize) -> usize
-    ensures { result ≡ up_from (is_parent last.now child.now k) from (m - from) }
+// The first place from `from` on, below m, at which the first k bits of `child` stand in the last query.
+fn up_from(last: &[u8], m: usize, child: &[u8], k: usize, from: usize) -> Option<usize>
+    ensures { MatchOption result (m ≤ up_from (is_parent last.now child.now k) from (m - from)) (λ a. (a < m) × (up_from (is_parent last.now child.now k) from (m - from) ≡ a)) }
 {
-    let mut a = from;
-    while a < m {
-        if same_bits(query::prefix_at(last, a), child, k) {
-            return a;
-        }
-        a += 1;
-    }
-    a
+    (from..m).find(|a| same_bits(query::prefix_at(last, *a), child, k))
 }
 
-// The greatest place of the last query below `below` where they stand; m if there is none.
-fn down_from(last: &[u8], m: usize, child: &[u8], k: usize, below: usize) -> usize
-    ensures { result ≡ down_from (is_parent last.now child.now k) m below }
+// The greatest place below `below` at which they stand.
+fn down_from(last: &[u8], child: &[u8], k: usize, below: usize) -> Option<usize>
+    ensures { (none : ℕ) → MatchOption result (down_from (is_parent last.now child.now k) none below ≡ none) (λ a. (a < below) × (down_from (is_parent last.now child.now k) none below ≡ a)) }
 {
-    let mut a = below;
-    while 0 < a {
-        a -= 1;
-        if same_bits(query::prefix_at(last, a), child, k) {
-            return a;
-        }
-    }
-    m
+    (0..below)
+        .rev()
+        .find(|a| same_bits(query::prefix_at(last, *a), child, k))
 }
 
-// The place, among the first m of the last query, of the parent of a packed child of k + 1 bits, looked for from `hint` on, upwards or downwards.
+// The place, among the first m of the last query, of the parent of a packed child of k + 1 bits, looked for from `hint` on, upwards or downwards, and
+// where there is none from the beginning.
+fn find_parent(
+    last: &[u8],
+    m: usize,
+    child: &[u8],
+    k: usize,
+    up: bool,
+    hint: usize,
+) -> Option<usize>
+    ensures { MatchOption result (looked_up up (is_parent last.now child.now k) m hint ≡ m) (λ a. (a ≡ looked_up up (is_parent last.now child.now k) m hint) × (a < m)) }
+{
+    if up {
+        return up_from(last, m, child, k, hint).or_else(|| up_from(last, m, child, k, 0));
+    }
+    let below = m.min(hint.saturating_add(1));
+    down_from(last, child, k, below).or_else(|| down_from(last, child, k, m))
+}
+
+// The same place; m where there is none, as a number: what turns promises of its parents counts with it.
 pub fn parent_place(last: &[u8], m: usize, child: &[u8], k: usize, up: bool, hint: usize) -> usize
     ensures { result ≡ looked_up up (is_parent last.now child.now k) m hint }
 {
-    if up {
-        let near = up_from(last, m, child, k, hint);
-        if near < m {
-            return near;
-        }
-        return up_from(last, m, child, k, 0);
-    }
-    let below = if hint < m { hint + 1 } else { m };
-    let near = down_from(last, m, child, k, below);
-    if near < m {
-        return near;
-    }
-    down_from(last, m, child, k, m)
+    find_parent(last, m, child, k, up, hint).unwrap_or(m)
 }
 
 // Whether some prefix of the new query has no parent in the last one.
@@ -120,15 +102,13 @@ pub fn parent_missing(last: &[u8], query: &[u8]) -> bool
         return true;
     }
     let m = last_count(last);
-    let count = query::prefix_count(query);
     let mut hint = 0;
-    let mut j = 0;
-    while j < count {
-        hint = parent_place(last, m, query::prefix_at(query, j), k, true, hint);
-        if m <= hint {
+    for j in 0..query::prefix_count(query) {
+        let child = query::prefix_at(query, j);
+        let Some(place) = find_parent(last, m, child, k, true, hint) else {
             return true;
-        }
-        j += 1;
+        };
+        hint = place;
     }
     false
 }

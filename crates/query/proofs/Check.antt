@@ -1,11 +1,13 @@
 -- The tests of a query, in their order.
-use Prim.Native.Nat.{ℕ, ◌+◌, ◌*◌, ◌≤◌, ◌<◌}
-use native.Mathlib.Nat.{mul-le-mul}
+use Prim.Native.Nat.{ℕ, ◌+◌, ◌-◌, ◌*◌, ◌/◌, ◌≤◌, ◌<◌}
+use native.Mathlib.Omega.{arith}
+use native.Mathlib.Nat.{mul-le-mul, mul-div_cancel}
 use mathlib.Core.Path.{◌≡◌, ◌∙◌}
 use mathlib.Core.Bool.{true, false, ◌&&◌}
 use mathlib.Core.List.{List, map}
 use borrow.Author.Tests.{le-leb, lt-leb, eq-eqb, ne_eqb}
-use lib.ListN.{length, drop}
+use lib.ListN.{length, take, drop, length-drop}
+use Rattle.std.proofs.lemmas.List.{take_rest}
 use lib.Dec.{leb, eqb}
 use Rattle.bits.specs.Packing.{packed_length, unpack}
 use Rattle.query.specs.Query.{limit, prefix_length, prefix_count, parts, spares_zero, is_ascending, is_query}
@@ -13,6 +15,13 @@ use Rattle.query.specs.Query.{limit, prefix_length, prefix_count, parts, spares_
 -- the bytes of all prefixes are few enough to be counted
 pub few_bytes : (m w : ℕ) → m ≤ limit → w ≤ 8192 → m * w ≤ 1073725440
 few_bytes m w a b = mul-le-mul a b
+
+-- after the fields stand the prefixes and nothing else
+pub whole_parts : (len m w : ℕ) (q : List ℕ) → w ≡ packed_length len → 0 < w → length q ≡ 6 + m * w
+    → parts (packed_length len) (length (take (length q - 6) (drop 6 q)) / packed_length len) (take (length q - 6) (drop 6 q)) ≡ parts w m (drop 6 q)
+whole_parts len m w q e z l =
+    let r : length (drop 6 q) ≡ m * w = length-drop 6 q ∙ omega arith in
+    rw (take_rest q 6, ← e, r, mul-div_cancel m z)
 
 -- the tests of length and count have passed, and the others decide
 pub record Left (n len m w : ℕ) (q : List ℕ) : Type 0 where

@@ -1,9 +1,14 @@
 -- Packed strings one after the other, with a number each: what is written of those that are kept, and how a loop over them goes on.
-use Prim.Native.Nat.{ℕ, zero, suc, ◌+◌, ◌-◌, ◌*◌, ◌≤◌, ◌<◌}
+use Prim.Native.Nat.{ℕ, zero, suc, ◌+◌, ◌-◌, ◌*◌, ◌≤◌, ◌<◌, min}
 use native.Mathlib.Omega.{arith}
 use mathlib.Core.Path.{◌≡◌, refl, sym, ap, ◌∙◌}
 use mathlib.Core.Bool.{Bool, true, false}
 use mathlib.Core.List.{List, [], ◌∷◌, ◌++◌, map, append_assoc}
+use mathlib.Core.Logic.{◌⊎◌, ⊎_elim}
+use denote.Ref.{Bor}
+use Rattle.std.specs.Prelude.{Option, None, Some, MatchOption}
+use Rattle.std.specs.Option.{unwrap_or}
+use Rattle.std.specs.List.{slice_range}
 use borrow.Author.Tests.{le-leb, lt-leb, leb-true, leb-false}
 use lib.ListN.{length, take, drop, length-append, length-drop, length-map}
 use lib.Seq.{length-take-le}
@@ -36,8 +41,14 @@ module _ (w from : ℕ) (d : List ℕ) where
     pub part_length : length (take w (drop from d)) ≡ w
     part_length = let h : w ≤ length (drop from d) = rw (length-drop from d) (omega arith) in length-take-le w (drop from d) h
 
-    pub part_size : length (part w from d) ≡ w
-    part_size = rw part_inside part_length
+  -- what was asked for between the two places, of which the second stays at the greatest number where it would pass it
+  pub part_got : (end most : ℕ) → end ≡ min (from + w) most → length d < most → (r : Option (Bor (List ℕ)))
+      → MatchOption r ((end < from) ⊎ (length d < end)) (λ x. (from ≤ end) × (end ≤ length d) × (x.now ≡ slice_range d from end) × (length x.now + from ≡ end))
+      → (s none : Bor (List ℕ)) → s ≡ unwrap_or r none → none.now ≡ [] → from ≤ most → s.now ≡ part w from d
+  part_got end most f g None m s none o e k = ap (λ s. s.now) o ∙ e ∙ sym (part_outside (⊎_elim (λ l. absurd (omega arith)) (λ l. omega arith) m))
+  part_got end most f g (Some x) m s none o e k =
+      let b : end - from ≡ w = omega (arith, m.1) in
+      ap (λ s. s.now) o ∙ m.2 ∙ rw b (sym (part_inside (omega (arith, m.1))))
 
 -- the next of m parts lies within, and so do those after it
 pub next_room : (m w from most : ℕ) → 0 < m → from + m * w ≤ most → (from + w ≤ most) × (from + w + (m - 1) * w ≤ most)

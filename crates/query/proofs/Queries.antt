@@ -67,10 +67,10 @@ and_six a b c d e f h =
       and_right (a && b && c && d && e) f h,
     )
 
-drop_byte : (w : ℕ) (bytes : List ℕ) → ((i : ℕ) → get_or bytes i 0 < 256) → (i : ℕ) → get_or (drop w bytes) i 0 < 256
+pub drop_byte : (w : ℕ) (bytes : List ℕ) → ((i : ℕ) → get_or bytes i 0 < 256) → (i : ℕ) → get_or (drop w bytes) i 0 < 256
 drop_byte w bytes byte i = rw (get_or-drop w bytes i 0) (byte (w + i))
 
-take_bytes : (w : ℕ) (bytes : List ℕ) → ((i : ℕ) → get_or bytes i 0 < 256) → w ≤ length bytes → Bytes w (take w bytes)
+pub take_bytes : (w : ℕ) (bytes : List ℕ) → ((i : ℕ) → get_or bytes i 0 < 256) → w ≤ length bytes → Bytes w (take w bytes)
 take_bytes w bytes byte h = let k : 0 + w ≤ length bytes = omega arith in rw (window_inside w 0 bytes k) at (window_bytes w 0 bytes byte)
 
 module _ (n : ℕ) where

@@ -1,8 +1,8 @@
 // Queries as bytes: their fields, their prefixes in place, and the check of cause 9. Every published function answers for all inputs.
 #![tactic(auto)]
 
-ghost use Rattle.std.specs.Prelude.{◌≡◌, true, map, ◌+◌, ◌*◌, ◌≤◌, ◌<◌, length, take, drop};
-ghost use Rattle.bits.specs.Packing.{packed_length, unpack, spare_zero, bytes_before};
+ghost use Rattle.std.specs.Prelude.{◌≡◌, true, map, ◌/◌, ◌≤◌, ◌<◌, length};
+ghost use Rattle.bits.specs.Packing.{packed_length, unpack};
 ghost use Rattle.query.specs.Query.{prefix_length, prefix_count, parts, spares_zero, is_ascending, is_query};
 ghost use Rattle.query.specs.Prefix.{packed_prefix};
 
@@ -29,68 +29,31 @@ pub fn prefix_at(q: &[u8], i: usize) -> &[u8]
     ensures { result.now ≡ packed_prefix q.now i }
 {
     let w = bits::packed_length(prefix_length(q));
-    if q.len() < 6 {
-        return &q[..0];
-    }
-    if (q.len() - 6) / w <= i {
-        return &q[..0];
-    }
-    let at = 6 + i * w;
-    let end = at + w;
-    &q[at..end]
+    let at = i.saturating_mul(w).saturating_add(6);
+    let end = at.saturating_add(w);
+    q.get(at..end).unwrap_or(&[])
 }
 
-// Whether the spare bits of the packed string of len bits in the w bytes from place `at` on are zero.
-fn spare_zero_at(q: &[u8], len: usize, w: usize, at: usize) -> bool
-    requires { at + w ≤ length q.now }
-    ensures { result ≡ spare_zero len (take w (drop at q.now)) }
+// Whether the spare bits of each packed string of len bits are zero.
+fn spares_zero(packed: &[u8], len: usize) -> bool
+    requires { 1 ≤ len }
+    ensures { result ≡ spares_zero len (parts (packed_length len) (length packed.now / packed_length len) packed.now) }
 {
-    let end = at + w;
-    bits::spare_zero(&q[at..end], len)
+    let w = bits::packed_length(len);
+    packed.chunks_exact(w).all(|s| bits::spare_zero(s, len))
 }
 
-// Whether the spare bits of each of `count` prefixes of len bits, w bytes each, are zero.
-fn spares_zero(q: &[u8], len: usize, w: usize, count: usize) -> bool
-    requires { 6 + count * w ≤ length q.now }
-    ensures { result ≡ spares_zero len (parts w count (drop 6 q.now)) }
+// Whether each packed string of len bits, all of them without spare bits, stands before the next.
+fn in_order(packed: &[u8], len: usize) -> bool
+    requires { (1 ≤ len) × (spares_zero len (parts (packed_length len) (length packed.now / packed_length len) packed.now) ≡ true) }
+    ensures { result ≡ is_ascending (map (unpack len) (parts (packed_length len) (length packed.now / packed_length len) packed.now)) }
 {
-    let mut left = count;
-    let mut at = 6;
-    while 0 < left {
-        if !spare_zero_at(q, len, w, at) {
-            return false;
-        }
-        at += w;
-        left -= 1;
-    }
-    true
-}
-
-// Whether the w bytes from place `at` on stand before the w bytes after them.
-fn before_next(q: &[u8], w: usize, at: usize) -> bool
-    requires { at + w + w ≤ length q.now }
-    ensures { result ≡ bytes_before (take w (drop at q.now)) (take w (drop (at + w) q.now)) }
-{
-    let middle = at + w;
-    let end = middle + w;
-    bits::before(&q[at..middle], &q[middle..end])
-}
-
-// Whether each of `count` prefixes of len bits, w bytes each and without spare bits, stands before the next.
-fn in_order(q: &[u8], len: usize, w: usize, count: usize) -> bool
-    requires { (w ≡ packed_length len) × (6 + count * w ≤ length q.now) × (spares_zero len (parts w count (drop 6 q.now)) ≡ true) }
-    ensures { result ≡ is_ascending (map (unpack len) (parts w count (drop 6 q.now))) }
-{
-    let mut left = count;
-    let mut at = 6;
-    while 1 < left {
-        if !before_next(q, w, at) {
-            return false;
-        }
-        at += w;
-        left -= 1;
-    }
-    true
+    let w = bits::packed_length(len);
+    let next = packed.chunks_exact(w).skip(1);
+    packed
+        .chunks_exact(w)
+        .zip(next)
+        .all(|(a, b)| bits::before(a, b))
 }
 
 // Whether the bytes are a query for strings of n bits.
@@ -112,8 +75,9 @@ pub fn is_query(n: u64, q: &[u8]) -> bool
     if q.len() != 6 + count * w {
         return false;
     }
-    if !spares_zero(q, len, w, count) {
+    let packed = &q[6..];
+    if !spares_zero(packed, len) {
         return false;
     }
-    in_order(q, len, w, count)
+    in_order(packed, len)
 }

@@ -1,5 +1,5 @@
 // Queries as they are written: the two fields, kept prefixes, and their children. What does not fit is not written at all.
-ghost use Rattle.std.specs.Prelude.{◌≡◌, cond, [], ◌++◌, ◌+◌, ◌<◌, length, take};
+ghost use Rattle.std.specs.Prelude.{◌≡◌, cond, [], ◌++◌, ◌+◌, length, take};
 ghost use Rattle.numbers.specs.Numbers.{big};
 ghost use Rattle.bits.specs.Packing.{packed_length, pack, unpack};
 ghost use Rattle.places.specs.Places.{put_at};
@@ -20,6 +20,18 @@ pub fn write_fields(out: &mut [u8], at: usize, k: u64, count: u64)
     numbers::write_be4(out, at + 2, count);
 }
 
+// Writes the bytes into the places of `out` from `at` on, if they fit; and the place after what is written.
+fn write_fitting(bytes: &[u8], out: &mut [u8], at: usize) -> usize
+    ensures out_after { out.new ≡ put_at out.old at bytes.now }
+    ensures value { result ≡ at + length (fitting out.old at bytes.now) }
+{
+    if !within(out.len(), at, bytes.len()) {
+        return at;
+    }
+    copy(bytes, out, at);
+    at + bytes.len()
+}
+
 // Writes the packed prefix in the w bytes of `source` from place `from` on into the places of `out` from `at` on, if it is kept; and the place after
 // what is written.
 pub fn write_prefix(
@@ -36,26 +48,16 @@ pub fn write_prefix(
     if !kept {
         return at;
     }
-    if !within(source.len(), from, w) {
-        return at;
-    }
-    if !within(out.len(), at, w) {
-        return at;
-    }
-    let end = from + w;
-    copy(&source[from..end], out, at);
-    at + w
+    let end = from.saturating_add(w);
+    let prefix = source.get(from..end).unwrap_or(&[]);
+    write_fitting(prefix, out, at)
 }
 
 // How many bytes a child takes of the prefix that the first len bits of `prefix` are.
 fn child_length(prefix: &[u8], len: usize) -> usize
     ensures { result ≡ packed_length (length (unpack len prefix.now) + 1) }
 {
-    let whole = len / 8;
-    if whole < prefix.len() {
-        return whole + 1;
-    }
-    prefix.len() + 1
+    prefix.len().min(len / 8) + 1
 }
 
 // Writes both children of the prefix that the first len bits of `prefix` are, packed, into the places of `out` from `at` on, if it is kept; and the
@@ -77,6 +79,7 @@ pub fn write_both_children(
     if !within(out.len(), at, size) {
         return at;
     }
+    // No slice holds the children before they are written, so they do not go through `write_fitting`.
     let second = at + size;
     if !within(out.len(), second, size) {
         return at;

@@ -2,8 +2,8 @@
 use mathlib.Core.Path.{◌≡◌, refl, sym, ap, ap₂, ◌∙◌}
 use mathlib.Core.Bool.{Bool, cond}
 use mathlib.Core.List.{List}
-use Prim.Native.Nat.{ℕ, suc, ◌+◌, ◌-◌, ◌*◌, ◌/◌, ◌≤◌, ◌<◌, min}
-use native.Mathlib.Nat.{div-zero, div-add-mod, min-zero, min-eq_left, min-eq_right, min-le_left, min-le_right, mul-le-mul_left, mul-suc}
+use Prim.Native.Nat.{ℕ, suc, ◌+◌, ◌-◌, ◌*◌, ◌/◌, ◌≤◌, ◌<◌}
+use native.Mathlib.Nat.{div-add-mod, min-le_left, min-le_right, mul-le-mul_left, mul-suc}
 use native.Mathlib.Numerals.{add-one}
 use native.Mathlib.Omega.{arith}
 use lib.ListN.{length, take, drop}
@@ -15,20 +15,6 @@ use Rattle.point.specs.Evaluation.{share}
 use Rattle.point.specs.PublicShare.{public_share_length, read_correction}
 use Rattle.point.specs.Instance.{scheme}
 use Rattle.report_sums.specs.Reports.{report_count, seed_at, public_share_at, sum_where, lent_share}
-
--- ---- how many
-
-module _ (n seeds : ℕ) (shares : List ℕ) {l : ℕ} (e : l ≡ public_share_length n) where
-  pub count_none : l ≡ 0 → 0 ≡ min seeds (length shares / public_share_length n)
-  count_none z =
-      let none : length shares / public_share_length n ≡ 0 = ap (λ (m : ℕ). length shares / m) (sym e ∙ z) ∙ div-zero (length shares) in
-      sym (ap (min seeds) none ∙ min-zero seeds)
-
-  pub count_seeds : seeds < length shares / l → seeds ≡ min seeds (length shares / public_share_length n)
-  count_seeds h = sym (ap (λ (m : ℕ). min seeds (length shares / m)) (sym e) ∙ min-eq_left (omega arith))
-
-  pub count_shares : length shares / l ≤ seeds → length shares / l ≡ min seeds (length shares / public_share_length n)
-  count_shares h = sym (ap (λ (m : ℕ). min seeds (length shares / m)) (sym e) ∙ min-eq_right h)
 
 -- ---- where
 

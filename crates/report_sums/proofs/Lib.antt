@@ -2,4 +2,3 @@ pub mod Lent
 pub mod LentPrefix
 pub mod ReportChecks
 pub mod PublicChecks
-pub mod OneShare

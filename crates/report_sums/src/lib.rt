@@ -5,4 +5,4 @@ mod checks;
 mod reports;
 
 pub use checks::{all_payloads_below, all_spare_bits_zero, wrong_lengths};
-pub use reports::{Sums, public_share_at, server_sum, server_sums};
+pub use reports::{Server, public_share_at};

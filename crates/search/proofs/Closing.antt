@@ -2,21 +2,21 @@
 use Prim.Native.Nat.{ℕ, ◌+◌, ◌≤◌}
 use native.Mathlib.Omega.{arith}
 use mathlib.Core.Path.{◌≡◌, refl, sym, ap, ◌∙◌}
-use mathlib.Core.Bool.{Bool, true, false, true≢false, cond}
+use mathlib.Core.Bool.{Bool, true, false, cond}
 use mathlib.Core.List.{List, [], ◌∷◌}
 use mathlib.Core.Logic.{◌≢◌}
-use borrow.Author.Tests.{not-false}
+use Rattle.std.specs.Prelude.{Option, Some, Result, Ok, Err, IsErrAnd}
 use Rattle.bits.specs.Strings.{Bits}
 use Rattle.calls.specs.Bounds.{most_bits}
 use Rattle.calls.specs.Causes.{Cause, number_due}
 use Rattle.calls.proofs.Decisions.{bounds}
-use Rattle.calls.proofs.Judged.{Clear, first_due, second_due, number_clear, threshold_numbered, ◌&◌}
+use Rattle.calls.proofs.Judged.{Clear, numbered, first_due, second_due, number_clear, threshold_numbered, ◌&◌}
 use Rattle.expander.specs.Expander.{choice_of}
 use Rattle.expander.specs.declared.Expander.{Expander}
-use Rattle.expander.specs.declared.Choice.{Choice}
-use Rattle.expander.specs.declared.Choice.TheVariants.{Known, Unknown}
-use Rattle.expander.proofs.Chosen.{unknown}
-use Rattle.levels.specs.Levels.{total_of, ending_with, no_room, ending_of, ending_by, ending}
+use Rattle.calls.specs.Refusals.{number_of}
+use Rattle.calls.specs.declared.Refusal.{Refusal}
+use Rattle.levels.specs.declared.Lengths.{Lengths}
+use Rattle.levels.specs.Levels.{ended, total_of, ending_with, no_room, ending_of, ending_by, ending}
 use Rattle.levels.proofs.Closing.{same_parts}
 use Rattle.search.specs.Search.{Lent, total, total_under, reports, record_bytes, list_bytes, queries_fit, lent_causes, space_causes, search_number, record_length, list_length, record_after, list_after, search_ending, reaches_of}
 use Rattle.search.proofs.Outcome.{Bearing, threshold_other}
@@ -43,15 +43,21 @@ module _ (s : Lent) where
 
   -- ---- refused for what is lent
 
-  pub refused : (number : ℕ) → number ≡ number_due (lent_causes s) → number ≢ 0 → Settled number 0 0 s.record_area s.list_area
+  number_refused : (number : ℕ) → number ≡ number_due (lent_causes s) → number ≢ 0 → Settled number 0 0 s.record_area s.list_area
   unfolding search_number
-  refused number e h =
+  number_refused number e h =
       let n : number ≡ search_number s = e ∙ sym (first_due (lent_causes s) (space_causes s) (λ z. h (e ∙ z))) in
       let some : search_number s ≢ 0 = λ z. h (n ∙ z) in
       let other : search_number s ≢ 11 =
       λ z. due_other 11 (lent_causes s) (omega arith & threshold_other s.weighted & omega arith & omega arith & omega arith & omega arith & omega arith & omega arith & tt) (omega arith)
       (sym e ∙ n ∙ z) in
       same_parts n (sym (record_length_refused s some)) (sym (list_length_refused s some)) (sym (record_refused s some other)) (sym (list_refused s some))
+
+  -- a refusal that a `?` hands on
+  pub refused : (refusal : Refusal) → number_of refusal ≡ number_due (lent_causes s) → (r : Result Lengths Refusal) → IsErrAnd r (λ e. e ≡ refusal)
+      → ended r s.record_area s.list_area ≡ search_ending s
+  refused refusal h (Ok x) p = absurd p
+  refused refusal h (Err e) p = number_refused (number_of e) (ap number_of p ∙ h) (numbered e)
 
   -- ---- where none of these causes applies
 
@@ -61,9 +67,6 @@ module _ (s : Lent) where
 
     pub within_bounds : (1 ≤ s.n) × (s.n ≤ 256)
     within_bounds = bounds most_bits s.n none.0
-
-    pub never_unknown : choice_of s.expander ≡ Unknown → ⊥
-    never_unknown h = true≢false (sym (not-false _ none.1.1.0) ∙ unknown s.expander h)
 
   -- ---- as its levels end
 
@@ -88,13 +91,13 @@ module _ (s : Lent) where
             let a : search_number s ≡ 0 = number_last ∙ ap (λ (b : Bool). cond b 11 0) h in
             rw h (same_parts a (record_length_lem s a) (list_length_lem s a) (rw a) (rw a))
 
-    module _ (e : Expander) (known : choice_of s.expander ≡ Known e) where
+    module _ (e : Expander) (known : choice_of s.expander ≡ Some e) where
       abbrev T : Bits → ℕ
       T = total_of e s.n s.seeds0 s.shares0 s.seeds1 s.shares1
 
       same_total : total s ≡ T
       unfolding total_under
-      same_total = ap (λ (c : Choice). total_under c s) known
+      same_total = ap (λ (c : Option Expander). total_under c s) known
 
       same_ending : ending_of (record_bytes s) (list_bytes s) (queries_fit s) s.record_area s.list_area
           ≡ ending_by (reaches_of s) T (reports s) s.n s.record_area s.list_area

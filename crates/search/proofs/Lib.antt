@@ -3,5 +3,4 @@ pub mod Outcome
 pub mod SearchDue
 pub mod Areas
 pub mod Rule
-pub mod Judging
 pub mod Closing

@@ -7,6 +7,7 @@ use mathlib.Core.Bool.{Bool, true, false, cond, not, true≢false}
 use mathlib.Core.List.{List, [], ◌∷◌, ◌++◌}
 use mathlib.Core.Logic.{◌≢◌}
 use borrow.Author.Tests.{eqb-true, ltb-false, not-false}
+use Rattle.std.specs.Prelude.{Option, Some, None}
 use lib.ListN.{length}
 use lib.Dec.{eqb, ltb}
 use Rattle.calls.specs.Bounds.{most_bits, threshold_most, threshold_number, most_reports}
@@ -16,8 +17,6 @@ use Rattle.calls.proofs.Judged.{◌&◌}
 use Rattle.calls.proofs.Judged as calls
 use Rattle.expander.specs.Expander.{choice_of, is_expander}
 use Rattle.expander.specs.declared.Expander.{Expander}
-use Rattle.expander.specs.declared.Choice.{Choice}
-use Rattle.expander.specs.declared.Choice.TheVariants.{Known, Unknown}
 use Rattle.expander.proofs.Chosen.{unknown}
 use Rattle.group.specs.Modular.{p}
 use Rattle.point.specs.PublicShare.{public_share_length, payloads_below, spare_bits_zero}
@@ -93,7 +92,7 @@ pub record Sound (s : Lent) : Type 0 where
   pub some_threshold : 1 ≤ s.t
   pub not_higher : s.t ≤ threshold_most s.weighted
   pub expander : Expander
-  pub named : choice_of s.expander ≡ Known expander
+  pub named : choice_of s.expander ≡ Some expander
   pub lent0 : Whole s.n s.seeds0 s.shares0 (reports s)
   pub lent1 : Whole s.n s.seeds1 s.shares1 (reports s)
   pub few : reports s ≤ 65535
@@ -107,12 +106,12 @@ pub record Clear (s : Lent) : Type 0 where
   pub queries_fit_lem : queries_fit s ≡ true
 
 -- a number that is an expander's names it
-pub named_expander : (e : ℕ) → is_expander e ≡ true → (x : Expander) × (choice_of e ≡ Known x)
+pub named_expander : (e : ℕ) → is_expander e ≡ true → (x : Expander) × (choice_of e ≡ Some x)
 named_expander e h = go (choice_of e) refl
   where
-    go : (c : Choice) → choice_of e ≡ c → (x : Expander) × (choice_of e ≡ Known x)
-    go (Known x) q = (x, q)
-    go Unknown q = absurd (true≢false (sym h ∙ unknown e q))
+    go : (c : Option Expander) → choice_of e ≡ c → (x : Expander) × (choice_of e ≡ Some x)
+    go (Some x) q = (x, q)
+    go None q = absurd (true≢false (sym h ∙ unknown e q))
 
 module _ (s : Lent) where
   sound : calls.Clear (lent_causes s) → Sound s

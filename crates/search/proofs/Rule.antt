@@ -5,12 +5,11 @@ use native.Mathlib.Omega.{arith}
 use mathlib.Core.Path.{◌≡◌, ap, ◌∙◌}
 use mathlib.Core.Bool.{true, false}
 use mathlib.Core.List.{List}
+use Rattle.std.specs.Prelude.{Option, Some}
 use lib.ListN.{length}
 use Rattle.bits.specs.Strings.{Bits, count}
 use Rattle.expander.specs.Expander.{choice_of}
 use Rattle.expander.specs.declared.Expander.{Expander}
-use Rattle.expander.specs.declared.Choice.{Choice}
-use Rattle.expander.specs.declared.Choice.TheVariants.{Known}
 use Rattle.group.specs.Modular.{p}
 use Rattle.point.specs.Evaluation.{bit_of}
 use Rattle.kept.specs.Kept.{reaches}
@@ -25,12 +24,12 @@ use Rattle.report_sums.specs.Reports.{all_count, server_sum}
 use Rattle.search.specs.Search.{Lent, reports, threshold_of, total_under, total, record_bytes, list_bytes, queries_fit, reaches_of}
 
 -- The total of a prefix is the sum of what server 0 and server 1 add up over their own seeds and public shares.
-pub total_sum : (s : Lent) (e : Expander) → choice_of s.expander ≡ Known e → (q : Bits)
+pub total_sum : (s : Lent) (e : Expander) → choice_of s.expander ≡ Some e → (q : Bits)
     → total s q
     ≡ (server_sum e s.n false s.seeds0 s.shares0 all_count (bit_of q) (length q)
     + server_sum e s.n true s.seeds1 s.shares1 all_count (bit_of q) (length q)) % p
 unfolding total_under
-total_sum s e named q = ap (λ (c : Choice). total_under c s q) named
+total_sum s e named q = ap (λ (c : Option Expander). total_under c s q) named
 
 -- Where every query fits, the children of the kept prefixes of each length below n are within the limit.
 pub queries_within : (s : Lent) → queries_fit s ≡ true → (k : ℕ) → k < s.n → length (children (search_list (reaches_of s) (total s) k)) ≤ limit

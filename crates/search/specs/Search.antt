@@ -1,12 +1,11 @@
 -- The call `search`: document 01, 'The search' and 'Causes of refusal', and document 02, [1] and [4].
-use Rattle.std.specs.Prelude.{ℕ, ◌/◌, ◌<◌, Bool, true, false, cond, not, ◌&&◌, ◌||◌, List, [], ◌∷◌, ◌++◌, ◌≢◌, ◌⊎◌, length, replicate, ltb, eqb}
+use Rattle.std.specs.Prelude.{ℕ, ◌/◌, ◌<◌, Bool, true, false, cond, not, ◌&&◌, ◌||◌, List, [], ◌∷◌, ◌++◌, ◌≢◌, ◌⊎◌, length, replicate, ltb, eqb, Option, Some, None}
 use Rattle.bits.specs.Strings.{Bits}
 use Rattle.places.specs.Places.{overlay}
 use Rattle.calls.specs.Bounds.{length_cause, threshold_cause, expander_cause, reports_cause}
 use Rattle.calls.specs.Causes.{Cause, cause, number_due}
 use Rattle.expander.specs.Expander.{choice_of}
-use Rattle.expander.specs.declared.Choice.{Choice}
-use Rattle.expander.specs.declared.Choice.TheVariants.{Known, Unknown}
+use Rattle.expander.specs.declared.Expander.{Expander}
 use Rattle.kept.specs.Kept.{reaches_as}
 use Rattle.query.specs.Query.{packs, limit, children}
 use Rattle.tree.specs.SearchRule.{search_record, search_list, search_fits}
@@ -63,9 +62,9 @@ reaches_of s = reaches_as s.weighted (threshold_of s)
 -- ---- the search
 
 -- the total of the prefix q under the expander that was chosen; without one, 0
-unfoldable pub total_under : Choice → Lent → Bits → ℕ
-total_under (Known e) s q = total_of e s.n s.seeds0 s.shares0 s.seeds1 s.shares1 q
-total_under Unknown s q = 0
+unfoldable pub total_under : Option Expander → Lent → Bits → ℕ
+total_under (Some e) s q = total_of e s.n s.seeds0 s.shares0 s.seeds1 s.shares1 q
+total_under None s q = 0
 
 abbrev pub total : Lent → Bits → ℕ
 total s = total_under (choice_of s.expander) s

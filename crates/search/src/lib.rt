@@ -3,20 +3,41 @@
 
 mod checks;
 
-ghost use Rattle.std.specs.Prelude.{◌≡◌};
+ghost use Rattle.std.specs.Prelude.{◌≡◌, ℕ, List};
+ghost use Rattle.levels.specs.Levels.{ended};
 ghost use Rattle.search.specs.Search.{lent, search_ending, returned};
 
-use crate::checks::first_cause;
-use expander::Choice;
+use crate::checks::check;
+use calls::Refusal;
 use kept::Rule;
+use levels::{Lengths, Search};
 
-// The number of the cause that refused it, or 0; and how many bytes were written of the record and of the list.
+// What C is told: the number of the cause that refused it, or 0; and how many bytes were written of the record and of the list.
 #[repr(C)]
 #[derive(Clone, Copy)]
 pub struct Found {
     pub number: u64,
     pub record_length: u64,
     pub list_length: u64,
+}
+
+impl From<Result<Lengths, Refusal>> for Found {
+    ghost from_gives = { λ answer found. (record_area list_area : List ℕ) → returned found record_area list_area ≡ ended answer record_area list_area };
+
+    fn from(answer: Result<Lengths, Refusal>) -> Found {
+        match answer {
+            Ok(lengths) => Found {
+                number: 0,
+                record_length: lengths.record,
+                list_length: lengths.list,
+            },
+            Err(refusal) => Found {
+                number: refusal.number(),
+                record_length: 0,
+                list_length: 0,
+            },
+        }
+    }
 }
 
 // Searches: writes the record, the number of reports and then each query followed by its totals; and the list of the kept strings of n bits; refuses
@@ -32,12 +53,12 @@ pub fn search(
     public_shares1: &[u8],
     record: &mut [u8],
     list: &mut [u8],
-) -> Found
-    ensures { returned result «record».new list.new ≡ search_ending (lent n weighted t expander seeds0.now
+) -> Result<Lengths, Refusal>
+    ensures { ended result «record».new list.new ≡ search_ending (lent n weighted t expander seeds0.now
         public_shares0.now
         seeds1.now public_shares1.now «record».old list.old) }
 {
-    let number = first_cause(
+    let e = check(
         n,
         weighted,
         t,
@@ -46,37 +67,15 @@ pub fn search(
         public_shares0,
         seeds1,
         public_shares1,
-    );
-    if number != 0 {
-        return Found {
-            number,
-            record_length: 0,
-            list_length: 0,
-        };
-    }
-    match expander::choose(expander) {
-        Choice::Known(e) => {
-            let found = levels::run(
-                e,
-                (n - 1) as u8,
-                Rule { t, weighted },
-                seeds0,
-                public_shares0,
-                seeds1,
-                public_shares1,
-                record,
-                list,
-            );
-            Found {
-                number: found.number,
-                record_length: found.record_length,
-                list_length: found.list_length,
-            }
-        }
-        Choice::Unknown => Found {
-            number: 3,
-            record_length: 0,
-            list_length: 0,
-        },
-    }
+    )?;
+    let levels = Search {
+        expander: e,
+        last: (n - 1) as u8,
+        rule: Rule { t, weighted },
+        seeds0,
+        shares0: public_shares0,
+        seeds1,
+        shares1: public_shares1,
+    };
+    levels.run(record, list)
 }

@@ -5,36 +5,30 @@ ghost use Rattle.std.specs.Prelude.{◌≡◌, ◌&&◌, ◌≤◌, length};
 ghost use Rattle.numbers.specs.Numbers.{from_little};
 ghost use Rattle.places.specs.Places.{window, overlay};
 ghost use Rattle.calls.specs.Causes.{number_due};
-ghost use Rattle.calls.specs.Outcome.{left};
+ghost use Rattle.calls.specs.Refusals.{number_in};
+ghost use Rattle.calls.specs.Outcome.{answered};
 ghost use Rattle.group.specs.Modular.{field};
 ghost use Rattle.shares.specs.ShareNumbers.{numbers, unmatched, all_below};
 ghost use Rattle.shares.specs.Add.{add_causes, add_bytes, add_exit};
 
-use calls::Reply;
+use calls::Refusal;
 use numbers::{read_le8, write_le8};
 
 // Whether the lengths of two shares differ or are no multiple of 8.
 pub fn unmatched(share0: &[u8], share1: &[u8]) -> bool
     ensures { result ≡ unmatched share0.now share1.now }
 {
-    if share0.len() != share1.len() {
-        return true;
-    }
-    share0.len() % 8 != 0
+    share0.len() != share1.len() || share0.len() % 8 != 0
 }
 
 // Whether every number of a share is below p.
 fn all_below(share: &[u8]) -> bool
     ensures { result ≡ all_below (numbers share.now) }
 {
-    let mut left = share.len() / 8;
-    let mut place = 0;
-    while 0 < left {
-        if group::P <= read_le8(share, place) {
+    for i in 0..share.len() / 8 {
+        if group::P <= read_le8(share, 8 * i) {
             return false;
         }
-        place += 8;
-        left -= 1;
     }
     true
 }
@@ -43,10 +37,7 @@ fn all_below(share: &[u8]) -> bool
 pub fn both_below(share0: &[u8], share1: &[u8]) -> bool
     ensures { result ≡ (all_below (numbers share0.now) && all_below (numbers share1.now)) }
 {
-    if !all_below(share0) {
-        return false;
-    }
-    all_below(share1)
+    all_below(share0) && all_below(share1)
 }
 
 // The sum in the group of the numbers of two shares at place `at`.
@@ -56,20 +47,20 @@ pub fn sum_at(share0: &[u8], share1: &[u8], at: usize) -> u64
     group::add(read_le8(share0, at), read_le8(share1, at))
 }
 
-// The number of the first cause that applies, or 0.
-fn add_cause(share0: &[u8], share1: &[u8], room: usize) -> u64
-    ensures { result ≡ number_due (add_causes share0.now share1.now room) }
+// The first cause that applies.
+fn check(share0: &[u8], share1: &[u8], room: usize) -> Result<(), Refusal>
+    ensures { number_in result ≡ number_due (add_causes share0.now share1.now room) }
 {
     if unmatched(share0, share1) {
-        return 4;
+        return Err(Refusal::Lengths);
     }
     if !both_below(share0, share1) {
-        return 6;
+        return Err(Refusal::PayloadTooLarge);
     }
     if room < share0.len() {
-        return 11;
+        return Err(Refusal::NoSpace);
     }
-    0
+    Ok(())
 }
 
 // The sums at all places, in order, in the place of the beginning of `out`.
@@ -77,26 +68,16 @@ fn write_sums(share0: &[u8], share1: &[u8], out: &mut [u8])
     requires { (length share0.now ≡ length share1.now) × (length share0.now ≤ length out.old) }
     ensures { out.new ≡ overlay (add_bytes share0.now share1.now) out.old }
 {
-    let mut left = share0.len() / 8;
-    let mut place = 0;
-    while 0 < left {
-        write_le8(out, place, sum_at(share0, share1, place));
-        place += 8;
-        left -= 1;
+    for i in 0..share0.len() / 8 {
+        write_le8(out, 8 * i, sum_at(share0, share1, 8 * i));
     }
 }
 
 // Writes for each place the sum of the two shares' numbers; refuses with 4, 6 or 11.
-pub fn add_shares(share0: &[u8], share1: &[u8], out: &mut [u8]) -> Reply
-    ensures { left result out.new ≡ add_exit share0.now share1.now out.old }
+pub fn add_shares(share0: &[u8], share1: &[u8], out: &mut [u8]) -> Result<u64, Refusal>
+    ensures { answered result out.new ≡ add_exit share0.now share1.now out.old }
 {
-    let number = add_cause(share0, share1, out.len());
-    if number != 0 {
-        return Reply { number, length: 0 };
-    }
+    check(share0, share1, out.len())?;
     write_sums(share0, share1, out);
-    Reply {
-        number: 0,
-        length: share0.len() as u64,
-    }
+    Ok(share0.len() as u64)
 }

@@ -1,10 +1,9 @@
 -- What a level, and the levels below it, add to a record, in the steps in which the code adds it up.
 use Prim.Native.Nat.{ℕ, zero, suc, ◌+◌, ◌-◌, ◌*◌, ◌/◌, ◌^◌, ◌≤◌, ◌<◌, min}
 use native.Mathlib.Omega.{arith}
-use native.Mathlib.Nat.{mul-le-mul, min-eq_left, min-eq_right, pow-succ'}
+use native.Mathlib.Nat.{mul-le-mul, pow-succ'}
 use native.Mathlib.Numerals.{add-one}
 use mathlib.Core.Path.{◌≡◌, refl, ap, sym, ◌∙◌}
-use native.Mathlib.Decide.{dec_lt}
 use Rattle.bits.specs.Packing.{packed_length}
 use Rattle.tree.specs.SearchRule.{heading_length}
 use Rattle.tree.specs.Space.{level_length, space_from, record_space}
@@ -28,18 +27,10 @@ abbrev pub keepable : ℕ → ℕ → ℕ
 keepable w k = min (2 ^ k) w
 
 double_min : (a w : ℕ) → min (2 * a) (2 * w) ≡ 2 * min a w
-double_min a w =
-    elim (dec_lt a w) [
-      | yes h ↦ min-eq_left {n = 2 * a} (omega arith) ∙ ap (λ (x : ℕ). 2 * x) (sym (min-eq_left {n = a} (omega arith)))
-      | no h ↦ min-eq_right {n = 2 * w} (omega arith) ∙ ap (λ (x : ℕ). 2 * x) (sym (min-eq_right {n = w} (omega arith)))
-    ]
+double_min a w = omega arith
 
 min_again : (a w : ℕ) → min (2 * min a w) w ≡ min (2 * a) w
-min_again a w =
-    elim (dec_lt a w) [
-      | yes h ↦ rw (min-eq_left {n = a} {m = w} (omega arith))
-      | no h ↦ rw (min-eq_right {n = w} {m = a} (omega arith)) (min-eq_right {n = w} (omega arith) ∙ sym (min-eq_right {n = w} (omega arith)))
-    ]
+min_again a w = omega arith
 
 -- the next length's, from this one's
 pub keepable_next : (w k : ℕ) → min (2 * keepable w k) w ≡ keepable w (k + 1)

@@ -1,7 +1,7 @@
 // How much space is enough for the record and the list of a search over honest reports.
 #![tactic(auto)]
 
-ghost use Rattle.std.specs.Prelude.{◌≡◌, ◌-◌, ◌≤◌, ◌<◌, min};
+ghost use Rattle.std.specs.Prelude.{◌≡◌, true, false, ◌-◌, ◌/◌, ◌≤◌, ◌<◌, MatchOption};
 ghost use Rattle.tree.specs.Space.{level_length, space_from, fewest_holders};
 ghost use Rattle.space.specs.SearchSpace.{outside_bounds, named_record_space, named_list_space};
 
@@ -12,13 +12,9 @@ use tree::HEADING_LENGTH;
 fn outside_bounds(n: u64, weighted: bool, t: u64, reports: u64) -> bool
     ensures { result ≡ outside_bounds n weighted t reports }
 {
-    if calls::length_outside(n) {
-        return true;
-    }
-    if calls::threshold_outside(weighted, t) {
-        return true;
-    }
-    calls::too_many_reports(reports as usize)
+    calls::length_outside(n)
+        || calls::threshold_outside(weighted, t)
+        || calls::too_many_reports(reports as usize)
 }
 
 // How many installations hold a kept prefix, at least.
@@ -27,19 +23,9 @@ fn fewest_holders(weighted: bool, t: u64) -> u64
     ensures { (result ≡ fewest_holders weighted t) × (1 ≤ result) }
 {
     if weighted {
-        return (t + 32766) / 32767;
+        return t.div_ceil(32767);
     }
     t
-}
-
-// The lesser of two numbers.
-fn least(a: usize, b: usize) -> usize
-    ensures { result ≡ min a b }
-{
-    if a < b {
-        return a;
-    }
-    b
 }
 
 // What a level with `count` prefixes of k + 1 bits adds to a record.
@@ -59,24 +45,31 @@ fn levels_length(n: usize, most: usize) -> usize
     ensures { (result ≡ space_from most (n - 1) 1) × (result ≤ 1342158336) }
 {
     let mut space = 0;
-    let mut kept = least(2, most);
-    let mut k = 1;
-    while k < n {
+    let mut kept = most.min(2);
+    for k in 1..n {
         space += level_length(k, 2 * kept);
-        kept = least(2 * kept, most);
-        k += 1;
+        kept = most.min(2 * kept);
     }
     space
+}
+
+// How many strings can be kept of each length at most, over this many honest reports; none where an argument is outside its bounds.
+fn most_kept(n: u64, weighted: bool, t: u64, reports: u64) -> Option<u64>
+    ensures { MatchOption result (outside_bounds n weighted t reports ≡ true) (λ most. (outside_bounds n weighted t reports ≡ false) × (most ≡ reports / fewest_holders weighted t) × (1 ≤ n) × (n ≤ 256) × (most ≤ 65535)) }
+{
+    if outside_bounds(n, weighted, t, reports) {
+        return None;
+    }
+    Some(reports / fewest_holders(weighted, t))
 }
 
 // Space that is enough for the record of a search over this many honest reports; 0 where an argument is outside its bounds.
 pub fn record_space(n: u64, weighted: bool, t: u64, reports: u64) -> u64
     ensures { result ≡ named_record_space n weighted t reports }
 {
-    if outside_bounds(n, weighted, t, reports) {
+    let Some(most) = most_kept(n, weighted, t, reports) else {
         return 0;
-    }
-    let most = reports / fewest_holders(weighted, t);
+    };
     let first = HEADING_LENGTH + level_length(0, 2);
     (first + levels_length(n as usize, most as usize)) as u64
 }
@@ -85,9 +78,8 @@ pub fn record_space(n: u64, weighted: bool, t: u64, reports: u64) -> u64
 pub fn list_space(n: u64, weighted: bool, t: u64, reports: u64) -> u64
     ensures { result ≡ named_list_space n weighted t reports }
 {
-    if outside_bounds(n, weighted, t, reports) {
+    let Some(most) = most_kept(n, weighted, t, reports) else {
         return 0;
-    }
-    let strings = reports / fewest_holders(weighted, t);
-    strings * (packed_length(n as usize) as u64)
+    };
+    most * (packed_length(n as usize) as u64)
 }

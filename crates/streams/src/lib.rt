@@ -1,22 +1,31 @@
 // What a reader gives, read into a lent space, and what is written to a writer.
 #![tactic(auto)]
 
-ghost use Rattle.std.specs.Prelude.{◌+◌, ◌≤◌, ◌<◌, ◌≡◌, false, true, IfErr, IfSome, OnOk, length, take, drop};
-ghost use Rattle.std.specs.Io.KnownBytes.{Appends, Consumes, IsAtEnd};
-ghost use Rattle.streams.specs.Prefix.{IsPrefixLen};
+ghost use Rattle.std.specs.Prelude.{ℕ, List, IfErr, IfOk, IfSome, IsErrOf, OnOk, length, take, ◌≡◌, ◌<◌};
+ghost use Rattle.std.specs.Io.KnownBytes.{Appends, Consumes, Keeps};
+ghost use Rattle.streams.specs.Prefix.{IsPrefixLen, read_in};
+ghost use Rattle.streams.specs.declared.Failure.TheVariants.{Unread};
 
+use std::error::Error;
 use std::fmt;
 use std::io::{Read, Write};
 
-// How many bytes were read, and whether a read failed.
-#[derive(Drop)]
-pub struct Input {
+// A read failed behind so many bytes.
+#[derive(Clone, Copy, Debug, PartialEq, Eq, Hash)]
+pub struct Cut {
     pub length: usize,
-    pub failed: bool,
 }
 
+impl fmt::Display for Cut {
+    fn fmt<W: fmt::Write>(&self, f: &mut fmt::Formatter<W>) -> fmt::Result {
+        write!(f, "the input cannot be read behind byte {}", self.length)
+    }
+}
+
+impl Error for Cut {}
+
 // Why a program wrote no answer.
-#[derive(Clone, Copy)]
+#[derive(Clone, Copy, Debug, PartialEq, Eq, Hash)]
 pub enum Failure {
     Unread,
     Unwritten,
@@ -31,57 +40,58 @@ impl fmt::Display for Failure {
     }
 }
 
-// One read into the places from `done` on; the bytes before stay as they are. Where it is known which bytes the reader has left, these are
-// the first of them, and there are none only where no room or no byte is left.
-fn read_more<R: Read>(reader: &mut R, text: &mut [u8], done: usize) -> Input
-    requires { done ≤ length text.old }
-    ensures room { (done + result.length ≤ length text.old) × (length text.new ≡ length text.old) }
-    ensures kept { take done text.new ≡ take done text.old }
-    ensures bytes { Consumes (R.remaining reader.old) (R.remaining reader.new) (take result.length (drop done text.new)) }
-    ensures failure { result.failed ≡ true → result.length ≡ 0 }
-    ensures end { result.failed ≡ false → result.length ≡ 0 → done < length text.new → IsAtEnd (R.remaining reader.new) }
-{
-    let part = &mut text[done..];
-    match reader.read(part) {
-        Ok(length) => Input {
-            length,
-            failed: false,
-        },
-        Err(_) => Input {
-            length: 0,
-            failed: true,
-        },
+impl Error for Failure {}
+
+impl From<Cut> for Failure {
+    ghost from_gives = { λ _ failure. failure ≡ Unread };
+
+    fn from(_: Cut) -> Failure {
+        Self::Unread
     }
 }
 
 // Reads until the input ends, the space is full or a read fails. Where it is known which bytes the reader has left, what is read are the first
 // of them, and all of them that have room where no read fails.
-pub fn read_text<R: Read>(reader: &mut R, text: &mut [u8]) -> Input
-    ensures prefix { IsPrefixLen result.length text.new }
-    ensures bytes { Consumes (R.remaining reader.old) (R.remaining reader.new) (take result.length text.new) }
-    ensures cut { result.failed ≡ false → IfSome (R.remaining reader.old) (λ bytes. take result.length text.new ≡ take (length text.new) bytes) }
+pub fn read_text<R: Read>(reader: &mut R, text: &mut [u8]) -> Result<usize, Cut>
+    ensures prefix { IsPrefixLen (read_in result) text.new }
+    ensures bytes { Consumes (R.remaining reader.old) (R.remaining reader.new) (take (read_in result) text.new) }
+    ensures cut { IfOk result (λ n. IfSome (R.remaining reader.old) (λ bytes. take n text.new ≡ take (length text.new) bytes)) }
 {
     let mut done = 0;
     while done < text.len() {
-        let more = read_more(reader, text, done);
-        if more.failed {
-            return Input {
-                length: done,
-                failed: true,
-            };
+        let part = &mut text[done..];
+        match reader.read(part) {
+            Ok(0) => return Ok(done),
+            Ok(more) => done += more,
+            Err(_) => return Err(Cut { length: done }),
         }
-        if more.length == 0 {
-            return Input {
-                length: done,
-                failed: false,
-            };
-        }
-        done += more.length;
     }
-    Input {
-        length: done,
-        failed: false,
-    }
+    Ok(done)
+}
+
+// A program: what it writes for a text.
+pub trait Program {
+    // The whole output, which hangs on no more than the first 4,096 bytes.
+    ghost output: { List ℕ → List ℕ };
+
+    // Writes the whole output for a text at the beginning of `out`, and says how many bytes it has.
+    fn respond(text: &[u8], out: &mut [u8; 65536]) -> usize
+        ensures { IsPrefixLen result out.new × (take result out.new ≡ output text.now) };
+
+    ghost cut: { (m : ℕ) → 4096 < m → (bytes : List ℕ) → output (take m bytes) ≡ output bytes };
+}
+
+// Answers what a reader gives, on a writer. Where it is known which bytes the reader has left, the output is that for all of them, although
+// no more than 4,097 are read.
+pub fn serve<P: Program, R: Read, W: Write>(reader: &mut R, writer: &mut W) -> Result<(), Failure>
+    ensures ok { OnOk result (IfSome (R.remaining reader.old) (λ bytes. Appends (W.contents writer.old) (W.contents writer.new) (P.output bytes))) }
+    ensures unread { IsErrOf result Failure.Unread → Keeps (W.contents writer.old) (W.contents writer.new) }
+{
+    let mut text = [0u8; 4097];
+    let mut out = [0u8; 65536];
+    let length = read_text(reader, &mut text)?;
+    let end = P::respond(&text[..length], &mut out);
+    put(writer, &out[..end])
 }
 
 // Writes bytes, or says that this failed.
@@ -89,10 +99,7 @@ pub fn put<W: Write>(writer: &mut W, bytes: &[u8]) -> Result<(), Failure>
     ensures ok { OnOk result (Appends (W.contents writer.old) (W.contents writer.new) bytes.now) }
     ensures err { IfErr result (λ failure. failure ≡ Failure.Unwritten) }
 {
-    match writer.write_all(bytes) {
-        Ok(()) => Ok(()),
-        Err(_) => Err(Failure::Unwritten),
-    }
+    writer.write_all(bytes).map_err(|_| Failure::Unwritten)
 }
 
 #[cfg(test)]
@@ -127,8 +134,7 @@ mod tests {
         let mut reader = b"short ".as_slice().chain(b"reads".as_slice());
         let mut text = [b'.'; 16];
         let input = read_text(&mut reader, &mut text);
-        assert!(rt; !input.failed);
-        assert_eq!(rt; input.length, 11);
+        assert_eq!(rt; input, Ok(11));
         assert_eq!(rt; text.as_slice(), b"short reads.....".as_slice());
         Ok(())
     }
@@ -138,8 +144,7 @@ mod tests {
         let mut reader = b"short ".as_slice().chain(b"reads".as_slice());
         let mut text = [b'.'; 8];
         let input = read_text(&mut reader, &mut text);
-        assert!(rt; !input.failed);
-        assert_eq!(rt; input.length, 8);
+        assert_eq!(rt; input, Ok(8));
         assert_eq!(rt; text.as_slice(), b"short re".as_slice());
         Ok(())
     }
@@ -148,8 +153,7 @@ mod tests {
     fn says_that_a_read_failed(rt: HostRuntime) -> Result<(), Fail> {
         let mut text = [b'.'; 5];
         let input = read_text(&mut Failing { left: 3 }, &mut text);
-        assert!(rt; input.failed);
-        assert_eq!(rt; input.length, 3);
+        assert_eq!(rt; input, Err(Cut { length: 3 }));
         assert_eq!(rt; text.as_slice(), b"xxx..".as_slice());
         Ok(())
     }

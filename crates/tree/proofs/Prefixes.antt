@@ -15,13 +15,13 @@ use Rattle.bits.specs.Strings.{Bits, is_prefix, count}
 use Rattle.tree.specs.Cut.{prefixes, first, cut}
 use Rattle.places.proofs.Lists.{and_left, and_right, all_map, all_mem, all_over_map}
 
-beq_eq : (b c : Bool) → beq b c ≡ true → b ≡ c
+pub beq_eq : (b c : Bool) → beq b c ≡ true → b ≡ c
 beq_eq false false e = refl
 beq_eq false true e = cc
 beq_eq true false e = cc
 beq_eq true true e = refl
 
-beq_refl : (b : Bool) → beq b b ≡ true
+pub beq_refl : (b : Bool) → beq b b ≡ true
 beq_refl false = refl
 beq_refl true = refl
 

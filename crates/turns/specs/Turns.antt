@@ -6,12 +6,7 @@ use Rattle.places.specs.Places.{window, put_at, overlay}
 use Rattle.numbers.specs.Numbers.{little, from_little}
 use Rattle.bits.specs.Packing.{bits_of}
 use Rattle.group.specs.Modular.{field}
-use Rattle.expander.specs.Expander.{choice_of}
-use Rattle.expander.specs.declared.Expander.TheVariants.{Aes}
-use Rattle.expander.specs.declared.Choice.{Choice}
-use Rattle.expander.specs.declared.Choice.TheVariants.{Known, Unknown}
-use Rattle.calls.specs.Causes.{number_due}
-use Rattle.calls.specs.declared.Reply.{Reply}
+use Rattle.expander.specs.declared.Expander.{Expander}
 use Rattle.point.specs.Node as point
 use Rattle.point.specs.Correction.{Correction}
 use Rattle.point.specs.Evaluation.{descend, share_below}
@@ -24,7 +19,6 @@ use Rattle.nodes.specs.NodeLayout.{node_of}
 use Rattle.report_sums.specs.Reports.{public_share_at}
 use Rattle.parents.specs.Lookup.{last_count, is_parent, looked_up}
 use Rattle.node_lists.specs.NodeList.{share_count}
-use Rattle.node_lists.specs.ShareKept.{kept_causes}
 use Rattle.turns.specs.declared.Task.{Task}
 use Rattle.turns.specs.declared.Place.{Place}
 
@@ -34,14 +28,9 @@ struct_of m = record { seed = m.seed; bit = m.bit }
 
 -- ---- the task
 
--- where a cause applies: its number, and nothing to do
-abbrev pub refused_task : ℕ → Task
-refused_task k = record { number = k; expander = Aes; levels = 0; server = false; level = 0; reports = 0; before = 0; after = 0 }
-
--- where none does, with the expander that was chosen
-abbrev pub task_under : Choice → ℕ → Bool → List ℕ → List ℕ → List ℕ → Task
-task_under (Known e) n b shares last query = record {
-  number = 0;
+-- that of a call in which no cause applies, with the expander that was chosen
+abbrev pub task_under : Expander → ℕ → Bool → List ℕ → List ℕ → List ℕ → Task
+task_under e n b shares last query = record {
   expander = e;
   levels = n;
   server = b;
@@ -50,20 +39,10 @@ task_under (Known e) n b shares last query = record {
   before = last_count last;
   after = prefix_count query;
 }
-task_under Unknown n b shares last query = refused_task 3
 
-unfoldable pub task_of : ℕ → ℕ → Bool → List ℕ → List ℕ → List ℕ → ℕ → ℕ → Task
-task_of n e b shares last query count room =
-    let k = number_due (kept_causes n e shares last query count room) in
-    cond (eqb k 0) (task_under (choice_of e) n b shares last query) (refused_task k)
-
--- the space when the task is made: where no cause applies, the sums are zero
+-- the space when the task is made: the sums are zero
 unfoldable pub cleared : Task → List ℕ → List ℕ
 cleared t area = overlay (replicate (8 * t.after) 0) area
-
--- what is returned
-unfoldable pub reply_of : Task → Reply
-reply_of t = record { number = t.number; length = 8 * t.after }
 
 -- ---- a turn
 

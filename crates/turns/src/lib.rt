@@ -1,19 +1,21 @@
 // One level down from a list of nodes, in its own place: the task, the place of each turn, and what a turn makes of a node and of the sums.
 #![tactic(auto)]
 
-ghost use Rattle.std.specs.Prelude.{◌≡◌, ◌+◌, ◌*◌, ◌-◌, ◌≤◌, ◌<◌, cond, length, replicate, ltb};
-ghost use Rattle.places.specs.Places.{overlay};
-ghost use Rattle.turns.specs.Turns.{refused_task, task_of, cleared, reply_of, nowhere, place_for, first_place, next_place, turned_node, added_at, turned_sums};
+ghost use Rattle.std.specs.Prelude.{◌≡◌, ◌+◌, ◌*◌, ◌-◌, ◌<◌, Some, MatchResult, cond, length, ltb};
+ghost use Rattle.calls.specs.Causes.{number_due};
+ghost use Rattle.calls.specs.Refusals.{number_in};
+ghost use Rattle.expander.specs.Expander.{choice_of};
+ghost use Rattle.node_lists.specs.ShareKept.{kept_causes};
+ghost use Rattle.turns.specs.Turns.{task_under, cleared, nowhere, place_for, first_place, next_place, turned_node, added_at, turned_sums};
 
-use calls::Reply;
-use expander::{Choice, Expander};
+use calls::Refusal;
+use expander::Expander;
 use nodes::Node;
 
-// What a call is to do: the number that refuses it, or 0; the expander; how many levels a public share has; the server; the level that is gone down; how
-// many reports there are, prefixes in the last query, and prefixes in the new one.
+// What a call is to do: the expander; how many levels a public share has; the server; the level that is gone down; how many reports there are,
+// prefixes in the last query, and prefixes in the new one.
 #[derive(Clone, Copy)]
 pub struct Task {
-    pub number: u64,
     pub expander: Expander,
     pub levels: u16,
     pub server: bool,
@@ -34,13 +36,6 @@ pub struct Place {
     pub due: bool,
     pub source: usize,
     pub target: usize,
-}
-
-// What a turn gives: the node to write, and the next place.
-#[derive(Clone, Copy)]
-pub struct Turned {
-    pub node: Node,
-    pub next: Place,
 }
 
 // No turn to take, with so many left.
@@ -116,8 +111,7 @@ pub fn first(task: Task, last: &[u8], query: &[u8]) -> Place
 fn after(task: Task, last: &[u8], query: &[u8], at: Place) -> Place
     ensures { result ≡ next_place task last.now query.now at }
 {
-    let left = if 0 < at.left { at.left - 1 } else { 0 };
-    place_for(task, last, query, left, at.parent)
+    place_for(task, last, query, at.left.saturating_sub(1), at.parent)
 }
 
 // Adds a share to the sum at place j.
@@ -131,7 +125,7 @@ fn add_at(out: &mut [u8], j: usize, share: u64)
     numbers::write_le8(out, 8 * j, sum);
 }
 
-// One turn: what it makes of the node at its source and of the sums, and the next place.
+// One turn: what it makes of the node at its source and of the sums; the node to write, and the next place.
 pub fn turn(
     task: Task,
     shares: &[u8],
@@ -140,51 +134,21 @@ pub fn turn(
     at: Place,
     m: Node,
     out: &mut [u8],
-) -> Turned
-    ensures { (result.node ≡ turned_node task shares.now query.now at m)
-        × (result.next ≡ next_place task last.now query.now at)
+) -> (Node, Place)
+    ensures { (result.0 ≡ turned_node task shares.now query.now at m)
+        × (result.1 ≡ next_place task last.now query.now at)
         × (out.new ≡ turned_sums task shares.now query.now at m out.old) }
 {
     let next = after(task, last, query, at);
     if !at.due {
-        return Turned { node: m, next };
+        return (m, next);
     }
     let share = report_sums::public_share_at(task.levels, shares, at.report);
     let level = task.level;
-    let e = task.expander;
     let x = bits::bit_at(query::prefix_at(query, at.prefix), level as usize);
-    let below = walk::step_down(e, task.levels, task.server, share, level, x, m);
-    let node = below.node;
-    add_at(out, at.prefix, below.share);
-    Turned { node, next }
-}
-
-// What refuses a call, and nothing to do.
-fn refused(number: u64) -> Task
-    ensures { result ≡ refused_task number }
-{
-    Task {
-        number,
-        expander: Expander::Aes,
-        levels: 0,
-        server: false,
-        level: 0,
-        reports: 0,
-        before: 0,
-        after: 0,
-    }
-}
-
-// Makes the first w bytes zero.
-fn clear(out: &mut [u8], w: usize)
-    requires { w ≤ length out.old }
-    ensures { out.new ≡ overlay (replicate w 0) out.old }
-{
-    let mut i = 0;
-    while i < w {
-        out[i] = 0;
-        i += 1;
-    }
+    let (node, sum) = walk::step_down(task.expander, task.levels, task.server, share, level, x, m);
+    add_at(out, at.prefix, sum);
+    (node, next)
 }
 
 // Judges a call that is lent `count` nodes, and makes its sums zero where no cause applies.
@@ -197,41 +161,30 @@ pub fn begin(
     query: &[u8],
     count: usize,
     out: &mut [u8],
-) -> Task
-    ensures { (result ≡ task_of n expander server shares.now last.now query.now count (length out.old))
-        × (out.new ≡ cleared (task_of n expander server shares.now last.now query.now count (length out.old))
-        out.old) }
+) -> Result<Task, Refusal>
+    ensures number { number_in result ≡ number_due (kept_causes n expander shares.now last.now query.now count (length out.old)) }
+    ensures begun { MatchResult result
+        (λ t. (choice_of expander ≡ Some t.expander) × (t ≡ task_under t.expander n server shares.now last.now query.now) × (out.new ≡ cleared t out.old))
+        (λ _. out.new ≡ out.old) }
 {
-    let number = node_lists::kept_cause(n, expander, shares, last, query, count, out.len());
-    if number != 0 {
-        return refused(number);
-    }
-    match expander::choose(expander) {
-        Choice::Known(e) => {
-            let after = query::prefix_count(query);
-            clear(out, 8 * after);
-            let levels = n as u16;
-            Task {
-                number: 0,
-                expander: e,
-                levels,
-                server,
-                level: (query::prefix_length(query) - 1) as u16,
-                reports: node_lists::share_count(levels, shares) as u16,
-                before: parents::last_count(last) as u32,
-                after: after as u32,
-            }
-        }
-        Choice::Unknown => refused(3),
-    }
+    let e = node_lists::check_kept(n, expander, shares, last, query, count, out.len())?;
+    let after = query::prefix_count(query);
+    out[..8 * after].fill(0);
+    let levels = n as u16;
+    Ok(Task {
+        expander: e,
+        levels,
+        server,
+        level: (query::prefix_length(query) - 1) as u16,
+        reports: node_lists::share_count(levels, shares) as u16,
+        before: parents::last_count(last) as u32,
+        after: after as u32,
+    })
 }
 
-// What the call returns.
-pub fn answer(task: Task) -> Reply
-    ensures { result ≡ reply_of task }
+// How many bytes the share takes.
+pub fn share_length(task: Task) -> u64
+    ensures { result ≡ 8 * task.after }
 {
-    Reply {
-        number: task.number,
-        length: 8 * (task.after as u64),
-    }
+    8 * (task.after as u64)
 }

@@ -46,9 +46,7 @@ fn fips197<W: Write>(printed: &mut W) -> io::Result<()> {
 // One block of SP 800-38A, F.1.1 and F.5.1: the plaintext enciphered, and the plaintext with the enciphered counter.
 fn sp800_38a<W: Write>(printed: &mut W, plain: [u8; 16], count: u64) -> io::Result<()> {
     let key = block(0x2b7e151628aed2a6, 0xabf7158809cf4f3c);
-    let both = aes::encrypt_two(key, plain, block(0xf0f1f2f3f4f5f6f7, count));
-    let ecb = both.first;
-    let mask = both.second;
+    let (ecb, mask) = aes::encrypt_two(key, plain, block(0xf0f1f2f3f4f5f6f7, count));
     show(printed, "SP 800-38A F.1.1 ECB", ecb)?;
     show(printed, "SP 800-38A F.5.1 CTR", expander::xor(plain, mask))
 }

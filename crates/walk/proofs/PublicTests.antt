@@ -1,5 +1,5 @@
 -- The tests of causes 6 and 7 on one public share, in the form that the code has.
-use mathlib.Core.Path.{◌≡◌, refl, ap, ap₂, ◌∙◌}
+use mathlib.Core.Path.{◌≡◌, refl, ap, ◌∙◌}
 use mathlib.Core.Bool.{Bool, true, ◌&&◌}
 use mathlib.Core.List.{List}
 use Prim.Native.Nat.{ℕ, ◌+◌, ◌*◌, ◌/◌, ◌%◌, ◌^◌}
@@ -10,15 +10,6 @@ use borrow.Author.Tests.{eq-eqb, ne_eqb}
 use Rattle.group.specs.Modular.{p}
 use Rattle.point.specs.Correction.{Correction}
 use Rattle.point.specs.PublicShare.{read_correction, every, payloads_below, spare_bits_zero}
-
--- one place more
-pub every_more : (k : ℕ) (f : ℕ → Bool) → every k f ≡ true → f k ≡ true → every (k + 1) f ≡ true
-unfolding every
-every_more k f h e = rw add-one (ap₂ ◌&&◌ h e)
-
-pub every_none : (f : ℕ → Bool) → every 0 f ≡ true
-unfolding every
-every_none f = refl
 
 -- the last control byte is full
 pub spare_full : (n : ℕ) (bytes : List ℕ) → n % 4 ≡ 0 → spare_bits_zero n bytes ≡ true

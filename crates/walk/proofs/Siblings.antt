@@ -1,45 +1,50 @@
--- Two packed prefixes whose first k bits agree: how the code finds that, and that their nodes are the same.
+-- Two packed prefixes whose first k bits agree: how the code finds that.
 use mathlib.Core.Path.{◌≡◌, refl, sym, ◌∙◌}
-use mathlib.Core.Bool.{Bool, true, false, not, beq}
-use Prim.Native.Nat.{ℕ, ◌-◌, ◌≤◌, ◌<◌}
+use mathlib.Core.Bool.{Bool, true, false, beq}
+use mathlib.Core.List.{List, [], ◌∷◌}
+use Prim.Native.Nat.{ℕ, zero, suc, ◌+◌, ◌-◌, ◌<◌}
 use native.Mathlib.Decide.{dec_lt}
 use native.Mathlib.Omega.{arith}
+use Rattle.std.specs.Prelude.{Option, MatchOption}
+use Rattle.std.specs.Iterator.{AlwaysYields}
+use Rattle.std.specs.Iterator.Adapters.{rev_source, rev_steps}
+use Rattle.std.specs.List.{list_all}
+use Rattle.std.specs.declared.ops.Range.{Range}
+use Rattle.std.specs.declared.iter.Rev.{Rev}
+use Rattle.std.proofs.lemmas.Iterator.{YieldsList}
+use Rattle.places.proofs.Lists.{and_left, and_right}
 use Rattle.point.proofs.Local.{Below}
 
--- ---- the test that two bits differ
+-- the places below k, the greatest first
+abbrev pub downwards : ℕ → List ℕ
+downwards zero = []
+downwards (suc k) = k ∷ downwards k
 
-bits_same : (a b : Bool) → not (beq a b) ≡ false → a ≡ b
+-- one place taken from the end of a range
+abbrev pub taken_back : Range ℕ → Option ℕ → Range ℕ → Type 0
+taken_back s r t = (t.start ≡ s.start) × MatchOption r ((s.end - s.start ≡ 0) × (t.end ≡ s.end)) (λ x. (0 < s.end - s.start) × (x ≡ t.end) × (s.end ≡ t.end + 1))
+
+range_down : (k : ℕ) (s : Rev (Range ℕ)) → (rev_source s).start ≡ 0 → (rev_source s).end ≡ k → AlwaysYields (rev_steps taken_back) (λ x. x) s (downwards k)
+range_down zero s e f = λ x j p. omega (arith, p.1.0)
+range_down (suc k) s e f = (
+  (λ j p. omega (arith, p.1.0)),
+  λ x j p. (omega (arith, p.1.1, p.1.2), range_down k j (p.0 ∙ e) (omega (arith, p.1.2))),
+)
+
+pub down_yields : {s : Rev (Range ℕ)} (k : ℕ) → (rev_source s).start ≡ 0 → (rev_source s).end ≡ k → YieldsList (rev_steps taken_back) (λ x. x) s (downwards k)
+down_yields {s} k e f = record { runs = range_down k s e f }
+
+bits_same : (a b : Bool) → beq a b ≡ true → a ≡ b
 bits_same true true h = refl
 bits_same false false h = refl
-bits_same true false h = h
-bits_same false true h = sym h
+bits_same true false h = sym h
+bits_same false true h = h
 
-bits_differ : (a : Bool) → not (beq a a) ≡ true → ⊥
-bits_differ true h = let z : ◌≡◌ {A = ℕ} 0 1 = cc in omega arith
-bits_differ false h = let z : ◌≡◌ {A = ℕ} 0 1 = cc in omega arith
-
--- ---- the bits from a place on
-
-module _ (q q' : ℕ → Bool) (k : ℕ) where
-  -- the first k bits agree from place `from` on
-  abbrev pub SameFrom : ℕ → Type 0
-  SameFrom from = (i : ℕ) → from ≤ i → i < k → q i ≡ q' i
-
-  pub same_none : SameFrom k
-  same_none i l h = absurd (omega arith)
-
-  pub same_all : (from : ℕ) → from ≤ 0 → SameFrom from → Below k q q'
-  same_all from z s i l = s i (omega arith) l
-
-  -- the bits a and b at the place before
-  module _ (from : ℕ) (h : 0 < from) {a b : Bool} (f : a ≡ q (from - 1)) (g : b ≡ q' (from - 1)) where
-    pub same_more : not (beq a b) ≡ false → SameFrom from → SameFrom (from - 1)
-    same_more t s i l m = elim (dec_lt i from) [ yes r ↦ at_place i (omega arith) | no r ↦ s i (omega arith) m ]
-      where
-        at_place : (j : ℕ) → j ≡ from - 1 → q j ≡ q' j
-        at_place j e = rw e (sym f ∙ bits_same a b t ∙ g)
-
-    pub same_not : not (beq a b) ≡ true → from ≤ k → Below k q q' → ⊥
-    same_not t l s =
-        let e : a ≡ b = f ∙ s (from - 1) (omega arith) ∙ sym g in
-        bits_differ b (rw e at t)
+-- bits that agree at all places
+pub all_same : (q q' : ℕ → Bool) (k : ℕ) → list_all (λ i. beq (q i) (q' i)) (downwards k) ≡ true → Below k q q'
+all_same q q' zero h i l = absurd (omega arith)
+all_same q q' (suc k) h i l =
+    elim (dec_lt i k) [
+      | yes r ↦ all_same q q' k (and_right (beq (q k) (q' k)) _ h) i r
+      | no r ↦ let e : i ≡ k = omega arith in rw e (bits_same (q k) (q' k) (and_left (beq (q k) (q' k)) _ h))
+    ]

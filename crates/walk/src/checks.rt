@@ -1,17 +1,9 @@
 // The tests of causes 6 and 7 on one public share.
-ghost use Rattle.std.specs.Prelude.{◌≡◌, ◌&&◌, ltb};
+ghost use Rattle.std.specs.Prelude.{◌≡◌};
 ghost use Rattle.group.specs.Modular.{p};
 ghost use Rattle.point.specs.PublicShare.{payloads_below, spare_bits_zero};
 
 use crate::reader::ShareReader;
-use nodes::Correction;
-
-// Whether the payload corrections before were below p and that of this word is, too.
-fn still_below(before: bool, word: Correction) -> bool
-    ensures { result ≡ (before && ltb word.payload p) }
-{
-    before && word.payload < group::P
-}
 
 // Whether the payload corrections of all n levels are below p: one reader is handed on from level to level.
 pub fn payloads_below(n: u16, share: &[u8]) -> bool
@@ -19,9 +11,9 @@ pub fn payloads_below(n: u16, share: &[u8]) -> bool
 {
     let mut reader = ShareReader::at_level(share, n, 0);
     let mut below = true;
-    while reader.next < n {
+    for _ in 0..n {
         let word = reader.correction();
-        below = still_below(below, word);
+        below &= word.payload < group::P;
         reader = reader.advanced();
     }
     below
@@ -32,8 +24,5 @@ pub fn spare_bits_zero(n: u16, share: &[u8]) -> bool
     ensures { result ≡ spare_bits_zero n share.now }
 {
     let m = n as usize;
-    if m % 4 == 0 {
-        return true;
-    }
-    places::byte_at(share, m / 4) >> (2 * (m % 4)) == 0
+    m % 4 == 0 || places::byte_at(share, m / 4) >> (2 * (m % 4)) == 0
 }

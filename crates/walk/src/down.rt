@@ -11,13 +11,6 @@ use crate::steps::corrected_child;
 use expander::Expander;
 use nodes::{Node, draw};
 
-// A node, and a server's share at it.
-#[derive(Clone, Copy)]
-pub struct OneDown {
-    pub node: Node,
-    pub share: u64,
-}
-
 // A payload w with the correction v added where the control bit is set.
 fn with_correction(bit: bool, w: u64, v: u64) -> u64
     ensures { result ≡ cond bit (field.add w v) w }
@@ -33,23 +26,23 @@ fn as_share(b: bool, v: u64) -> u64
 }
 
 // Server b's node and share one bit x further down than the node m, by the correction word of level k, of n, in a public share.
-pub fn step_down(e: Expander, n: u16, b: bool, bytes: &[u8], k: u16, x: bool, m: Node) -> OneDown
-    ensures node_value { node_of result.node ≡ descend (scheme e) (read_correction n bytes.now k) x (node_of m) }
-    ensures share_value { result.share ≡ share_below (scheme e) b (read_correction n bytes.now k) x (node_of m) }
+// It takes no ServerKey: the kept node stands where that has the seed.
+pub fn step_down(
+    e: Expander,
+    n: u16,
+    b: bool,
+    bytes: &[u8],
+    k: u16,
+    x: bool,
+    m: Node,
+) -> (Node, u64)
+    ensures node_value { node_of result.0 ≡ descend (scheme e) (read_correction n bytes.now k) x (node_of m) }
+    ensures share_value { result.1 ≡ share_below (scheme e) b (read_correction n bytes.now k) x (node_of m) }
 {
     let word = read_correction(bytes, n, k);
     let child = corrected_child(e, word, x, m);
-    let seed = child.seed;
-    let blocks = expander::two_blocks(e, seed, 2, 3);
-    let final_seed = blocks.first;
-    let payload_block = blocks.second;
+    let (seed, payload_block) = expander::two_blocks(e, child.seed, 2, 3);
     let value = with_correction(child.bit, draw(payload_block), word.payload);
-    let node = Node {
-        seed: final_seed,
-        bit: child.bit,
-    };
-    OneDown {
-        node,
-        share: as_share(b, value),
-    }
+    let bit = child.bit;
+    (Node { seed, bit }, as_share(b, value))
 }

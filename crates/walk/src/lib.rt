@@ -8,6 +8,6 @@ mod reader;
 mod steps;
 
 pub use checks::{payloads_below, spare_bits_zero};
-pub use down::{OneDown, step_down};
-pub use pairs::{Shares, shares_at};
+pub use down::step_down;
+pub use pairs::ServerKey;
 pub use reader::read_correction;

@@ -12,11 +12,14 @@ use crate::steps::{descend, share_below};
 use expander::Expander;
 use nodes::Node;
 
-// A server's shares at two prefixes.
+// What a server needs for its shares of one report: the expander, the number n of levels, which server it is, its root seed, and the public share.
 #[derive(Clone, Copy)]
-pub struct Shares {
-    pub first: u64,
-    pub second: u64,
+pub struct ServerKey<'a> {
+    pub expander: Expander,
+    pub n: u16,
+    pub server: bool,
+    pub seed: [u8; 16],
+    pub public_share: &'a [u8],
 }
 
 // Whether the first k bits of two packed prefixes agree.
@@ -24,88 +27,62 @@ fn same_bits(first: &[u8], second: &[u8], k: u16) -> bool
     ensures below { result ≡ true → Below k (bit_of (bits_of first.now)) (bit_of (bits_of second.now)) }
     ensures fact { result ≡ false → Below k (bit_of (bits_of first.now)) (bit_of (bits_of second.now)) → ⊥ }
 {
-    let mut from = k as usize;
-    while 0 < from {
-        from -= 1;
-        if bits::bit_at(first, from) != bits::bit_at(second, from) {
-            return false;
+    (0..k as usize)
+        .rev()
+        .all(|i| bits::bit_at(first, i) == bits::bit_at(second, i))
+}
+
+impl ServerKey<'_> {
+    // The node at the first k bits of a packed prefix.
+    // It stays a recursion: document 01 names that form for this place.
+    fn node_at(&self, prefix: &[u8], k: u16) -> Node
+        ensures { node_of result ≡ node (scheme self.now.expander) (read_correction self.now.n self.now.public_share.now) self.now.seed self.now.server (bit_of (bits_of prefix.now)) k }
+    {
+        if k == 0 {
+            return Node {
+                seed: self.seed,
+                bit: self.server,
+            };
         }
+        let up = k - 1;
+        let above = self.node_at(prefix, up);
+        let (word, _) = read_level(self.public_share, self.n, up);
+        descend(
+            self.expander,
+            word,
+            bits::bit_at(prefix, up as usize),
+            above,
+        )
     }
-    true
-}
 
-// Server b's node at the first k bits of a packed prefix, from its root seed.
-fn node_at(
-    e: Expander,
-    n: u16,
-    bytes: &[u8],
-    seed: [u8; 16],
-    b: bool,
-    prefix: &[u8],
-    k: u16,
-) -> Node
-    ensures { node_of result ≡ node (scheme e) (read_correction n bytes.now) seed b (bit_of (bits_of prefix.now)) k }
-{
-    if k == 0 {
-        return Node { seed, bit: b };
+    // The node at the first k bits of a second packed prefix: the first prefix's node m, where these bits agree.
+    fn second_node(&self, first: &[u8], second: &[u8], k: u16, m: Node) -> Node
+        requires { node_of m ≡ node (scheme self.now.expander) (read_correction self.now.n self.now.public_share.now) self.now.seed self.now.server (bit_of (bits_of first.now)) k }
+        ensures { node_of result ≡ node (scheme self.now.expander) (read_correction self.now.n self.now.public_share.now) self.now.seed self.now.server (bit_of (bits_of second.now)) k }
+    {
+        if same_bits(first, second, k) {
+            return m;
+        }
+        self.node_at(second, k)
     }
-    let up = k - 1;
-    let m = node_at(e, n, bytes, seed, b, prefix, up);
-    let level = read_level(bytes, n, up);
-    let word = level.word;
-    descend(e, word, bits::bit_at(prefix, up as usize), m)
-}
 
-// Server b's node at the first k bits of a second packed prefix: the first prefix's node, where these bits agree.
-fn second_node(
-    e: Expander,
-    n: u16,
-    bytes: &[u8],
-    seed: [u8; 16],
-    b: bool,
-    first: &[u8],
-    second: &[u8],
-    k: u16,
-    m: Node,
-) -> Node
-    requires { node_of m ≡ node (scheme e) (read_correction n bytes.now) seed b (bit_of (bits_of first.now)) k }
-    ensures { node_of result ≡ node (scheme e) (read_correction n bytes.now) seed b (bit_of (bits_of second.now)) k }
-{
-    if same_bits(first, second, k) {
-        return m;
-    }
-    node_at(e, n, bytes, seed, b, second, k)
-}
-
-// Server b's shares at the first k bits of two packed prefixes, from its root seed; 0 at the empty prefix.
-pub fn shares_at(
-    e: Expander,
-    n: u16,
-    bytes: &[u8],
-    seed: [u8; 16],
-    b: bool,
-    first: &[u8],
-    second: &[u8],
-    k: u16,
-) -> Shares
-    ensures first_value { result.first ≡ share (scheme e) (read_correction n bytes.now) seed b (bit_of (bits_of first.now)) k }
-    ensures second_value { result.second ≡ share (scheme e) (read_correction n bytes.now) seed b (bit_of (bits_of second.now)) k }
-{
-    if k == 0 {
-        return Shares {
-            first: 0,
-            second: 0,
-        };
-    }
-    let up = k - 1;
-    let m = node_at(e, n, bytes, seed, b, first, up);
-    let o = second_node(e, n, bytes, seed, b, first, second, up, m);
-    let level = read_level(bytes, n, up);
-    let word = level.word;
-    let x = bits::bit_at(first, up as usize);
-    let y = bits::bit_at(second, up as usize);
-    Shares {
-        first: share_below(e, b, word, x, m),
-        second: share_below(e, b, word, y, o),
+    // The server's shares at the first k bits of two packed prefixes; 0 at the empty prefix.
+    pub fn shares_at(self, first: &[u8], second: &[u8], k: u16) -> (u64, u64)
+        ensures first_value { result.0 ≡ share (scheme self.entry.expander) (read_correction self.entry.n self.entry.public_share.now) self.entry.seed self.entry.server (bit_of (bits_of first.now)) k }
+        ensures second_value { result.1 ≡ share (scheme self.entry.expander) (read_correction self.entry.n self.entry.public_share.now) self.entry.seed self.entry.server (bit_of (bits_of second.now)) k }
+    {
+        if k == 0 {
+            return (0, 0);
+        }
+        let up = k - 1;
+        let m = self.node_at(first, up);
+        let o = self.second_node(first, second, up, m);
+        let (word, _) = read_level(self.public_share, self.n, up);
+        let x = bits::bit_at(first, up as usize);
+        let y = bits::bit_at(second, up as usize);
+        (
+            share_below(self.expander, self.server, word, x, m),
+            share_below(self.expander, self.server, word, y, o),
+        )
     }
 }

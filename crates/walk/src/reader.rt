@@ -6,18 +6,12 @@ ghost use Rattle.nodes.specs.NodeLayout.{correction_of};
 use nodes::{Correction, level_start};
 
 // A lent public share, its number of levels, and the level that is read next.
+// It stays a struct that is handed on: document 01 names that form for this place.
 #[derive(Clone, Copy)]
 pub(crate) struct ShareReader<'a> {
     share: &'a [u8],
     levels: u16,
     pub(crate) next: u16,
-}
-
-// A level that was read: its correction word, and the level after it.
-#[derive(Clone, Copy)]
-pub(crate) struct LevelRead {
-    pub(crate) word: Correction,
-    pub(crate) after: u16,
 }
 
 // The correction word of level k, of n, in a public share.
@@ -69,15 +63,10 @@ impl<'a> ShareReader<'a> {
 }
 
 // The correction word of level k, of n, and the level after it, by a reader made at level k.
-pub(crate) fn read_level(bytes: &[u8], n: u16, k: u16) -> LevelRead
+pub(crate) fn read_level(bytes: &[u8], n: u16, k: u16) -> (Correction, u16)
     requires { k < 65535 }
-    ensures { (correction_of result.word ≡ read_correction n bytes.now k) × (result.after ≡ k + 1) }
+    ensures { (correction_of result.0 ≡ read_correction n bytes.now k) × (result.1 ≡ k + 1) }
 {
     let reader = ShareReader::at_level(bytes, n, k);
-    let word = reader.correction();
-    let on = reader.advanced();
-    LevelRead {
-        word,
-        after: on.next,
-    }
+    (reader.correction(), reader.advanced().next)
 }

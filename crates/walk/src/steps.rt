@@ -51,6 +51,5 @@ pub(crate) fn share_below(e: Expander, b: bool, c: Correction, x: bool, m: Node)
 {
     let below = corrected_child(e, c, x, m);
     let v = corrected_payload(e, c.payload, below);
-    let negated = group::negate(v);
-    if b { negated } else { v }
+    if b { group::negate(v) } else { v }
 }

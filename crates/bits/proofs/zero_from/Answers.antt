@@ -1,24 +1,17 @@
--- `bits::zero_from` meets its contract. The loop's invariant: what is left decides. The measure is its length.
-use native.Mathlib.Numerals.{add-one}
+-- `bits::zero_from` meets its contract. What is left is zero where each of its bytes is.
 use native.Mathlib.Omega.{arith}
-use mathlib.Core.Path.{refl, sym, ◌∙◌}
-use Rattle.bits.proofs.Spare.{zero_past, zero_yes, zero_no}
+use mathlib.Core.Path.{◌∙◌}
+use lib.Dec.{eqb}
+use borrow.Author.Rules.{rules}
+use borrow.Author.Tests.{tests}
+use Rattle.std.proofs.lemmas.Iterator.{YieldsList-from_slice}
+use Rattle.std.proofs.lemmas.Iterator.Adapters.{YieldsList-from_skip}
+use Rattle.std.proofs.lemmas.Iterator.Search.{all_from_yields_List}
+use Rattle.bits.proofs.Spare.{zero_rest}
 use Rattle.bits.proofs.zero_from.Goals as goal
 
-pub loop-i-init : goal.loop-i-init
-loop-i-init c = refl
-
-pub returns-then-s-i-ne0 : goal.returns-then-s-i-ne0
-returns-then-s-i-ne0 c =
-    let a = c.args in
-    let l = c.loop-i in
-    sym (l.invariant ∙ zero_no a.s.now l.i (omega arith) (omega (arith, c.shared_slice_known-1.given l.i)) c.if-s-i-ne0.true)
-
-pub loop-i-preserved : goal.loop-i-preserved
-loop-i-preserved c =
-    let a = c.args in
-    let l = c.loop-i in
-    rw (add-one l.i) (l.invariant ∙ zero_yes a.s.now l.i (omega arith) (omega (arith, c.shared_slice_known-1.given l.i)) c.if-s-i-ne0.false)
-
 pub returns : goal.returns
-returns c = sym (c.loop-i.invariant ∙ zero_past c.args.s.now c.loop-i.i (omega arith))
+returns c =
+    let a = c.args in
+    all_from_yields_List (λ x. eqb x 0) _ _ _ c.all.ensures.ran (YieldsList-from_skip a.from (YieldsList-from_slice a.s.now cc) cc) (λ x b q k. search (rules, tests))
+    ∙ zero_rest a.from a.s.now (λ i. omega (arith, c.type_inv.s i))

@@ -1,4 +1,4 @@
--- `expander::two_blocks` meets its contract, expander by expander.
+-- `expander::two_blocks` meets its contract under AES, by what its counters are.
 use Rattle.std.proofs.Common.{ap, ◌∙◌}
 use Rattle.aes.specs.Fips197.{cipher}
 use Rattle.expander.specs.Expander.{aes_block}
@@ -9,9 +9,6 @@ unfolding aes_block
 returns-in-Aes c =
     let seed = c.args.seed in
     rw c.in-Aes.is (
-      c.encrypt_two-pair.ensures.0 ∙ ap (cipher seed) c.counter.ensures,
-      c.encrypt_two-pair.ensures.1 ∙ ap (cipher seed) c.counter-in-Aes.ensures,
+      c.encrypt_two.ensures.0 ∙ ap (cipher seed) c.counter.ensures,
+      c.encrypt_two.ensures.1 ∙ ap (cipher seed) c.counter-in-Aes.ensures,
     )
-
-pub returns-in-Classroom : goal.returns-in-Classroom
-returns-in-Classroom c = rw c.in-Classroom.is (c.classroom-first.ensures, c.classroom-second.ensures)

@@ -1,4 +1,4 @@
--- `keymaker::write_key` meets its contract. The loop goes from level to level; the measure is the number of levels left.
+-- `keymaker::write_key` meets its contract. The loop goes from level to level.
 use mathlib.Core.Path.{◌≡◌, ap, ◌∙◌}
 use Prim.Native.Nat.{ℕ}
 use native.Mathlib.Omega.{arith}
@@ -24,12 +24,12 @@ pub loop-k-preserved : goal.loop-k-preserved
 loop-k-preserved c =
     let a = c.args in
     let l = c.loop-k in
-    let w = correction_of c.next_level-level.result.word in
+    let w = correction_of c.next_level.result.0 in
     standing_more a.e a.n a.weight a.string.now a.seed0 a.seed1 c.requires.1 c.requires.2 a.out.now c.requires.0 l.k c.loop-k-test.true
-    (node_of l.nodes.node0) (node_of l.nodes.node1) l.out l.invariant c.bit_at.result c.bit_at.ensures w c.next_level-level.ensures.word
+    (node_of l.nodes.0) (node_of l.nodes.1) l.out l.invariant c.bit_at.result c.bit_at.ensures w c.next_level.ensures.word
     c.put_control.new.out c.put_word.new.out c.put_control.ensures
     (c.put_word.ensures ∙ ap (λ (z : ℕ). put_at c.put_control.new.out z (level_bytes w)) c.level_start.ensures)
-    (node_of c.next_level-level.result.next.node0) (node_of c.next_level-level.result.next.node1) c.next_level-level.ensures.next.0 c.next_level-level.ensures.next.1
+    (node_of c.next_level.result.1.0) (node_of c.next_level.result.1.1) c.next_level.ensures.next.0 c.next_level.ensures.next.1
 
 pub shape_of-out : goal.shape_of-out
 shape_of-out c = c.loop-k.invariant.written.size
@@ -38,4 +38,4 @@ pub returns : goal.returns
 returns c =
     let a = c.args in
     let l = c.loop-k in
-    standing_end a.e a.n a.weight a.string.now a.seed0 a.seed1 c.requires.1 c.requires.2 a.out.now c.requires.0 l.k (node_of l.nodes.node0) (node_of l.nodes.node1) l.out l.invariant c.loop-k-test.false
+    standing_end a.e a.n a.weight a.string.now a.seed0 a.seed1 c.requires.1 c.requires.2 a.out.now c.requires.0 l.k (node_of l.nodes.0) (node_of l.nodes.1) l.out l.invariant c.loop-k-test.false

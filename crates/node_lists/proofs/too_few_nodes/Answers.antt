@@ -35,14 +35,11 @@ overflow_mul-reports c =
 pub returns-then-count-reports : goal.returns-then-count-reports
 returns-then-count-reports c =
     let a = c.args in
-    of_last a.reports a.last.now a.query.now a.count (rw (← c.last_count.ensures.0) c.if-count-reports.true)
+    let more : a.count < a.reports * last_count a.last.now = rw (← c.last_count.ensures.0) c.if-count-reports.true in
+    lt-ltb _ _ c.if-count-reports.true ∙ of_last a.reports a.last.now a.query.now a.count more
 
-pub overflow_mul-result : goal.overflow_mul-result
-overflow_mul-result c =
-    omega (arith, small c.args.reports c.prefix_count.result (omega arith) c.prefix_count.ensures.1)
-
-pub returns : goal.returns
-returns c =
+pub returns-else-count-reports : goal.returns-else-count-reports
+returns-else-count-reports c =
     let a = c.args in
     ap (λ (m : ℕ). ltb a.count (a.reports * m)) c.prefix_count.ensures.0
     ∙ of_new a.reports a.last.now a.query.now a.count (rw (← c.last_count.ensures.0) c.if-count-reports.false)

@@ -1,29 +1,13 @@
--- `parents::down_from` meets its contract. The loop's invariant: the places below a decide, and a is the measure.
-use Prim.Native.Nat.{◌-◌}
-use native.Mathlib.Omega.{arith}
-use mathlib.Core.Path.{◌≡◌, refl, sym, ap, ◌∙◌}
-use Rattle.parents.specs.Lookup.{agree, is_parent}
-use Rattle.parents.proofs.Looking.{down_found, down_on, down_end}
+-- `parents::down_from` meets its contract.
+use Rattle.std.proofs.Common.{rules, tests, ap}
+use Rattle.std.proofs.lemmas.Iterator.Search.{find_from_yields_List}
+use Rattle.parents.specs.Lookup.{is_parent}
+use Rattle.parents.proofs.Found.{down_yields, found_down}
 use Rattle.parents.proofs.down_from.Goals as goal
 
-pub loop-a-init : goal.loop-a-init
-loop-a-init c = refl
-
-pub returns-then-same_bits : goal.returns-then-same_bits
-returns-then-same_bits c =
-    let a = c.args in
-    let tested : c.same_bits.result ≡ is_parent a.last.now a.child.now a.k (c.loop-a.a - 1) =
-    c.same_bits.ensures ∙ ap (λ s. agree a.k s a.child.now) c.prefix_at.ensures in
-    sym (c.loop-a.invariant ∙ down_found (is_parent a.last.now a.child.now a.k) a.m c.loop-a.a (omega arith) c.same_bits.result tested c.if-same_bits.true)
-
-pub loop-a-preserved : goal.loop-a-preserved
-loop-a-preserved c =
-    let a = c.args in
-    let tested : c.same_bits.result ≡ is_parent a.last.now a.child.now a.k (c.loop-a.a - 1) =
-    c.same_bits.ensures ∙ ap (λ s. agree a.k s a.child.now) c.prefix_at.ensures in
-    c.loop-a.invariant ∙ down_on (is_parent a.last.now a.child.now a.k) a.m c.loop-a.a (omega arith) c.same_bits.result tested c.if-same_bits.false
-
 pub returns : goal.returns
-returns c =
+returns c none =
     let a = c.args in
-    sym (c.loop-a.invariant ∙ down_end (is_parent a.last.now a.child.now a.k) a.m c.loop-a.a (omega arith))
+    let f = is_parent a.last.now a.child.now a.k in
+    found_down f none a.below c.find.result
+    (find_from_yields_List f c.find.new.self _ c.find.result c.find.ensures.ran (down_yields a.below (ap (λ r. r.start) c.rev.ensures.source) (ap (λ r. r.end) c.rev.ensures.source)) (λ x b q k. search (rules, tests)))

@@ -1,9 +1,12 @@
 -- `query::is_query` meets its contract. Each test that fails is one of the definition's, after those that pass.
 use native.Mathlib.Omega.{arith}
 use Prim.Native.Nat.{◌*◌, ◌≤◌}
-use mathlib.Core.Path.{sym, ◌∙◌}
+use mathlib.Core.Path.{sym, ap, ◌∙◌}
+use mathlib.Core.List.{map}
+use Rattle.bits.specs.Packing.{unpack}
+use Rattle.query.specs.Query.{spares_zero, is_ascending}
 use borrow.Author.Tests.{not-true, not-false}
-use Rattle.query.proofs.Check.{few_bytes, Left, too_long, no_prefix, too_many, counted, other_length, spare_set, order_left}
+use Rattle.query.proofs.Check.{few_bytes, whole_parts, Left, too_long, no_prefix, too_many, counted, other_length, spare_set, order_left}
 use Rattle.query.proofs.is_query.Goals as goal
 use Rattle.query.proofs.is_query.Goals.{After-packed_length-w}
 
@@ -54,14 +57,22 @@ returns-then-q-count c = sym (other_length (left (goal.at.returns-then-q-count c
 
 pub returns-then-not-spares_zero : goal.returns-then-not-spares_zero
 returns-then-not-spares_zero c =
+    let a = c.args in
+    let w = c.packed_length-w in
+    let p = whole_parts c.prefix_length-len.result c.prefix_count-count.result w.result a.q.now w.ensures (omega arith) (omega arith) in
     sym (spare_set (left (goal.at.returns-then-not-spares_zero c).After-packed_length-w) (omega arith)
-    (sym c.spares_zero.ensures ∙ not-true _ c.if-not-spares_zero.true-raw))
+    (ap (spares_zero c.prefix_length-len.result) (sym p) ∙ sym c.spares_zero.ensures ∙ not-true _ c.if-not-spares_zero.true-raw))
 
 pub in_order-requires : goal.in_order-requires
-in_order-requires c = (c.packed_length-w.ensures, omega arith, sym c.spares_zero.ensures ∙ not-false _ c.if-not-spares_zero.false-raw)
+in_order-requires c = (omega arith, sym c.spares_zero.ensures ∙ not-false _ c.if-not-spares_zero.false-raw)
 
 pub returns : goal.returns
 returns c =
+    let a = c.args in
+    let len = c.prefix_length-len.result in
+    let w = c.packed_length-w in
+    let p = whole_parts len c.prefix_count-count.result w.result a.q.now w.ensures (omega arith) (omega arith) in
     c.in_order.ensures
+    ∙ ap (λ ss. is_ascending (map (unpack len) ss)) p
     ∙ sym (order_left (left (goal.at.returns c).After-packed_length-w) (omega arith)
-    (sym c.spares_zero.ensures ∙ not-false _ c.if-not-spares_zero.false-raw))
+    (ap (spares_zero len) (sym p) ∙ sym c.spares_zero.ensures ∙ not-false _ c.if-not-spares_zero.false-raw))

@@ -1,33 +1,30 @@
 -- `shares::add_shares` meets its contract. A refusal leaves the space as it was; else no cause applies, and the sums are written.
-use Prim.Native.Nat.{ℕ}
-use mathlib.Core.Path.{refl, sym, ap, ◌∙◌}
-use mathlib.Core.List.{List}
-use lib.ListN.{length}
-use Rattle.places.specs.Places.{overlay}
-use Rattle.places.proofs.Places.{overlay_nil}
-use Rattle.calls.proofs.Judged.{exit_equal}
-use Rattle.shares.proofs.AddOutcome.{due_number, nothing_written, Ready, ready}
+use Rattle.std.proofs.Common.{length, sym, ◌∙◌}
+use Rattle.calls.proofs.Judged.{refused_with, accepted_with}
+use Rattle.shares.specs.Add.{add_causes, add_bytes, add_outcome}
+use Rattle.shares.proofs.AddOutcome.{Ready, ready, due_number}
 use Rattle.shares.proofs.add_shares.Goals as goal
-use Rattle.shares.proofs.add_shares.Goals.{Else-number-ne0}
+use Rattle.shares.proofs.add_shares.Goals.{In_ok-check}
 
 -- no cause applies
-all_well : (c : Else-number-ne0) → Ready c.args.share0.now c.args.share1.now (length c.args.out.now)
+all_well : (c : In_ok-check) → Ready c.args.share0.now c.args.share1.now (length c.args.out.now)
 all_well c =
     let a = c.args in
     ready a.share0.now a.share1.now (length a.out.now)
-    (due_number a.share0.now a.share1.now (length a.out.now) ∙ sym c.add_cause-number.ensures ∙ c.if-number-ne0.false)
+    (due_number a.share0.now a.share1.now (length a.out.now) ∙ sym c.in_ok-check.ensures)
 
-pub returns-then-number-ne0 : goal.returns-then-number-ne0
-returns-then-number-ne0 c =
+pub returns-in_err-check : goal.returns-in_err-check
+unfolding add_outcome
+returns-in_err-check c =
     let a = c.args in
-    let e = c.add_cause-number.ensures ∙ sym (due_number a.share0.now a.share1.now (length a.out.now)) in
-    let w = nothing_written a.share0.now a.share1.now (length a.out.now) (λ z. c.if-number-ne0.true (e ∙ z)) in
-    exit_equal e (sym (ap length w)) (sym (ap (λ (v : List ℕ). overlay v a.out.now) w ∙ overlay_nil a.out.now))
+    refused_with (add_causes a.share0.now a.share1.now (length a.out.now)) _ c.in_err-check.ensures _ c.from_residual.ensures.1
+    (add_bytes a.share0.now a.share1.now) a.out.now
 
 pub write_sums-requires : goal.write_sums-requires
-write_sums-requires c = let r = all_well (goal.at.write_sums-requires c).Else-number-ne0 in (r.same, r.fits)
+write_sums-requires c =
+    let r = all_well (goal.at.write_sums-requires c).In_ok-check in (r.same, r.fits)
 
 pub returns : goal.returns
 returns c =
-    let r = all_well (goal.at.returns c).Else-number-ne0 in
-    rw r.outcome (exit_equal refl (sym r.size) c.write_sums.ensures)
+    let r = all_well (goal.at.returns c).In_ok-check in
+    rw r.outcome (accepted_with _ _ (sym r.size) c.write_sums.ensures)

@@ -23,9 +23,9 @@ returns c =
     let share = c.public_share_at-share in
     let child = c.prefix_at in (
       turned_node_lem a.task a.shares.now a.query.now a.at a.m due share.result.now share.ensures child.result.now
-          child.ensures c.bit_at-x.result c.bit_at-x.ensures c.step_down-below.result.node c.step_down-below.ensures.node_value,
+          child.ensures c.bit_at-x.result c.bit_at-x.ensures c.step_down-sum.result.0 c.step_down-sum.ensures.node_value,
       c.after-next.ensures,
       turned_sums_lem a.task a.shares.now a.query.now a.at a.m due share.result.now share.ensures child.result.now
-          child.ensures c.bit_at-x.result c.bit_at-x.ensures c.step_down-below.result.share c.step_down-below.ensures.share_value a.out.now
+          child.ensures c.bit_at-x.result c.bit_at-x.ensures c.step_down-sum.result.1 c.step_down-sum.ensures.share_value a.out.now
           c.add_at.new.out c.add_at.ensures,
     )

@@ -13,11 +13,11 @@ use Rattle.bits.proofs.child.last_byte.Goals.{Then-bit}
 
 -- the byte with the bit set
 with_bit : (c : Then-bit)
-    → c.wide-y.result - c.wide-y.result % (256 / 2 ^ c.args.rest) + 256 / 2 ^ c.args.rest / 2
+    → c.from-y.result - c.from-y.result % (256 / 2 ^ c.args.rest) + 256 / 2 ^ c.args.rest / 2
     ≡ value 8 (take c.args.rest (digits 8 c.args.x) ▹ c.args.bit)
 with_bit c =
     let a = c.args in
-    rw c.wide-y.ensures.0 (last_set a.x a.rest a.bit (omega arith) (omega arith) c.if-bit.true)
+    rw c.from-y.ensures (last_set a.x a.rest a.bit (omega arith) (omega arith) c.if-bit.true)
 
 pub nonzero_rem-kept : goal.nonzero_rem-kept
 nonzero_rem-kept c = unit_pos c.args.rest (omega arith)
@@ -41,4 +41,4 @@ returns-then-bit c = with_bit c
 pub returns : goal.returns
 returns c =
     let a = c.args in
-    rw c.wide-y.ensures.0 (last_clear a.x a.rest a.bit (omega arith) (omega arith) c.if-bit.false)
+    rw c.from-y.ensures (last_clear a.x a.rest a.bit (omega arith) (omega arith) c.if-bit.false)

@@ -5,9 +5,6 @@ use mathlib.Core.Path.{◌≡◌}
 use Rattle.query.proofs.Pieces.{part_inside}
 use Rattle.combine.proofs.writing.write_one.Goals as goal
 
-pub returns-then-last : goal.returns-then-last
-returns-then-last c = rw c.if-last.true (record { out_after = c.write_prefix.ensures.out_after; value = c.write_prefix.ensures.value })
-
 pub returns : goal.returns
 returns c =
     let a = c.args in

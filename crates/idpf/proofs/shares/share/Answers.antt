@@ -1,61 +1,46 @@
--- `idpf::shares::share` meets its contract: where no cause applies the expander is known, the query passes and the sums fit.
+-- `idpf::shares::share` meets its contract: where no cause applies the query passes and the sums fit.
 use Prim.Native.Nat.{ℕ, ◌*◌}
 use native.Mathlib.Omega.{arith}
-use mathlib.Core.Path.{◌≡◌, refl, sym, ap, ◌∙◌}
-use mathlib.Core.List.{List, []}
+use mathlib.Core.Path.{◌≡◌, sym, ap, ◌∙◌}
+use mathlib.Core.List.{[]}
 use lib.ListN.{length}
-use Rattle.places.specs.Places.{overlay}
-use Rattle.places.proofs.Places.{overlay_nil}
 use Rattle.calls.specs.Outcome.{judged}
-use Rattle.calls.proofs.Judged.{exit_equal}
-use Rattle.idpf.proofs.ShareOutcome.{causes, Ready, ready, outcome_number, outcome_refused, outcome_accepted, never_unknown, bytes_length}
+use Rattle.calls.proofs.Judged.{judged_due, refused_with, accepted_with}
+use Rattle.idpf.specs.Share.{share_causes, share_outcome}
+use Rattle.idpf.proofs.ShareOutcome.{Ready, ready, outcome_accepted, bytes_length}
 use Rattle.idpf.proofs.shares.share.Goals as goal
-use Rattle.idpf.proofs.shares.share.Goals.{Else-number-ne0}
+use Rattle.idpf.proofs.shares.share.Goals.{In_ok-e}
 
 -- no cause applies
-clear : (c : Else-number-ne0) →
-    (judged (causes c.args.n c.args.expander c.args.seeds.now c.args.public_shares.now c.args.query.now
-    (length c.args.out.now)) []).number ≡ 0
-clear c = sym c.share_cause-number.ensures ∙ c.if-number-ne0.false
+clear : (c : In_ok-e) → let a = c.args in (judged (share_causes a.n a.expander a.seeds.now a.public_shares.now a.query.now (length a.out.now)) []).number ≡ 0
+clear c =
+    let a = c.args in
+    judged_due (share_causes a.n a.expander a.seeds.now a.public_shares.now a.query.now (length a.out.now)) [] ∙ sym c.in_ok-e.ensures.number
 
-all_well : (c : Else-number-ne0) →
-    Ready c.args.n c.args.expander c.args.seeds.now c.args.public_shares.now c.args.query.now
-    (length c.args.out.now)
+all_well : (c : In_ok-e) → let a = c.args in Ready a.n a.expander a.seeds.now a.public_shares.now a.query.now (length a.out.now)
 all_well c = let a = c.args in ready a.n a.expander a.seeds.now a.public_shares.now a.query.now (length a.out.now) (clear c)
 
-pub returns-then-number-ne0 : goal.returns-then-number-ne0
-returns-then-number-ne0 c =
+pub returns-in_err-e : goal.returns-in_err-e
+unfolding share_outcome
+returns-in_err-e c =
     let a = c.args in
-    let w =
-    outcome_refused a.n a.expander a.server a.seeds.now a.public_shares.now a.query.now (length a.out.now)
-    c.share_cause-number.ensures c.if-number-ne0.true in
-    exit_equal
-    (outcome_number a.n a.expander a.server a.seeds.now a.public_shares.now a.query.now (length a.out.now) c.share_cause-number.ensures)
-    (sym (ap length w))
-    (sym (ap (λ (v : List ℕ). overlay v a.out.now) w ∙ overlay_nil a.out.now))
+    refused_with (share_causes a.n a.expander a.seeds.now a.public_shares.now a.query.now (length a.out.now)) _ c.in_err-e.ensures.number _ c.from_residual.ensures.1
+    _ a.out.now
 
-pub overflow_cast-n : goal.overflow_cast-n
-overflow_cast-n c = omega (arith, (all_well (goal.at.overflow_cast-n c).Else-number-ne0).not_longer)
+pub overflow_cast-lent : goal.overflow_cast-lent
+overflow_cast-lent c = omega (arith, (all_well (goal.at.overflow_cast-lent c).In_ok-e).not_longer)
 
 pub write_sums-requires : goal.write_sums-requires
-write_sums-requires c = let r = all_well (goal.at.write_sums-requires c).Else-number-ne0 in (r.a_query_lem, r.fits)
+write_sums-requires c =
+    let r = all_well (goal.at.write_sums-requires c).In_ok-e in
+    (r.a_query_lem, r.fits)
 
-pub overflow_mul-result : goal.overflow_mul-result
-overflow_mul-result c = omega (arith, c.prefix_count-count.ensures.1)
-
-pub returns-in-Known : goal.returns-in-Known
-returns-in-Known c =
+pub returns : goal.returns
+returns c =
     let a = c.args in
-    let x = c.in-Known.e in
+    let x = c.in_ok-e.e in
     rw (outcome_accepted a.n a.expander a.server a.seeds.now a.public_shares.now a.query.now (length a.out.now) x
-    (sym c.in-Known.ensures) (clear (goal.at.returns-in-Known c).Else-number-ne0))
-    (exit_equal
-    refl
-    (ap (λ (m : ℕ). 8 * m) c.prefix_count-count.ensures.0 ∙ sym (bytes_length a.n a.server a.seeds.now a.public_shares.now a.query.now x))
+    c.in_ok-e.ensures.chosen (clear (goal.at.returns c).In_ok-e))
+    (accepted_with _ _
+    (ap (λ (m : ℕ). 8 * m) c.prefix_count.ensures.0 ∙ sym (bytes_length a.n a.server a.seeds.now a.public_shares.now a.query.now x))
     c.write_sums.ensures)
-
-pub returns-in-Unknown : goal.returns-in-Unknown
-returns-in-Unknown c =
-    let a = c.args in
-    absurd (never_unknown a.n a.expander a.seeds.now a.public_shares.now a.query.now (length a.out.now)
-    (sym c.in-Unknown.ensures) (clear (goal.at.returns-in-Unknown c).Else-number-ne0))

@@ -13,5 +13,5 @@ use Rattle.keymaker.proofs.level.finish.Goals as goal
 pub returns : goal.returns
 unfolding final payload_of field_scheme
 returns c =
-    let b = c.two_blocks-blocks in
-    (same_node b.ensures.0 refl, c.draw-payload.ensures.0 ∙ ap (λ (l : List ℕ). from_little (take 8 l) % p) b.ensures.1)
+    let b = c.two_blocks in
+    (same_node b.ensures.0 refl, c.draw.ensures.0 ∙ ap (λ (l : List ℕ). from_little (take 8 l) % p) b.ensures.1)

@@ -10,14 +10,14 @@ pub returns : goal.returns
 returns c =
     let a = c.args in
     let S = scheme a.e in
-    let n0 = node_of a.nodes.node0 in
-    let n1 = node_of a.nodes.node1 in
+    let n0 = node_of a.nodes.0 in
+    let n1 = node_of a.nodes.1 in
     let b0 = c.both_children-both0 in
     let b1 = c.both_children-both1 in
-    let l0 = node_of b0.result.left in
-    let r0 = node_of b0.result.right in
-    let l1 = node_of b1.result.left in
-    let r1 = node_of b1.result.right in
+    let l0 = node_of b0.result.0 in
+    let r0 = node_of b0.result.1 in
+    let l1 = node_of b1.result.0 in
+    let r1 = node_of b1.result.1 in
     let seed =
     c.xor-seed.ensures ∙ ap₂ xor_bytes c.lose_seed.ensures c.lose_seed-2.ensures
     ∙ seed_made S a.a n0 n1 l0 r0 l1 r1 b0.ensures.0 b0.ensures.1 b1.ensures.0 b1.ensures.1 in

@@ -11,9 +11,9 @@ pub returns : goal.returns
 returns c =
     let a = c.args in
     let S = scheme a.e in
-    let d0 = c.finish-drawn0.ensures in
-    let d1 = c.finish-drawn1.ensures in record {
-      word = word_made a.e a.weight a.a (node_of a.nodes.node0) (node_of a.nodes.node1) c.kept_children-kept.ensures.words.0 c.kept_children-kept.ensures.words.1 c.kept_children-kept.ensures.words.2
-          (d0.1 ∙ ap (payload_of S) c.kept_children-kept.ensures.kept.0) (d1.1 ∙ ap (payload_of S) c.kept_children-kept.ensures.kept.1) (ap (λ (m : point.Node). m.bit) c.kept_children-kept.ensures.kept.1) c.payload_correction-payload.ensures;
-      next = (d0.0 ∙ ap (final S) c.kept_children-kept.ensures.kept.0, d1.0 ∙ ap (final S) c.kept_children-kept.ensures.kept.1);
+    let d0 = c.finish-payload0.ensures in
+    let d1 = c.finish-payload1.ensures in record {
+      word = word_made a.e a.weight a.a (node_of a.nodes.0) (node_of a.nodes.1) c.kept_children-left.ensures.words.0 c.kept_children-left.ensures.words.1 c.kept_children-left.ensures.words.2
+          (d0.1 ∙ ap (payload_of S) c.kept_children-left.ensures.kept.0) (d1.1 ∙ ap (payload_of S) c.kept_children-left.ensures.kept.1) (ap (λ (m : point.Node). m.bit) c.kept_children-left.ensures.kept.1) c.payload_correction-payload.ensures;
+      next = (d0.0 ∙ ap (final S) c.kept_children-left.ensures.kept.0, d1.0 ∙ ap (final S) c.kept_children-left.ensures.kept.1);
     }

@@ -10,8 +10,8 @@ returns-then-t1 c =
     let d = c.add-d.ensures.0 ∙ ap (λ (x : ℕ). field.add x a.w1) (c.add.ensures.0 ∙ ap (λ (x : ℕ). field.add a.weight x) c.negate.ensures.0) in
     rw c.if-t1.true (c.negate-then-t1.ensures.0 ∙ ap (λ (x : ℕ). field.neg x) d)
 
-pub returns : goal.returns
-returns c =
+pub returns-else-t1 : goal.returns-else-t1
+returns-else-t1 c =
     let a = c.args in
     let d = c.add-d.ensures.0 ∙ ap (λ (x : ℕ). field.add x a.w1) (c.add.ensures.0 ∙ ap (λ (x : ℕ). field.add a.weight x) c.negate.ensures.0) in
     rw c.if-t1.false d

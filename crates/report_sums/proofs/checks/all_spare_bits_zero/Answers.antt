@@ -1,7 +1,20 @@
--- `report_sums::checks::all_spare_bits_zero` meets its contract.
-use mathlib.Core.Path.{◌∙◌}
-use Rattle.report_sums.proofs.ReportChecks.{not_failed}
+-- `report_sums::checks::all_spare_bits_zero` meets its contract: the chunks are the public shares.
+use Rattle.std.proofs.Common.{rules, tests, arith, ◌∙◌}
+use Rattle.std.proofs.lemmas.Iterator.Search.{all_from_yields_List}
+use Rattle.point.specs.PublicShare.{spare_bits_zero}
+use Rattle.report_sums.proofs.ReportChecks.{chunks_yield, chunks_pass, none_fails}
 use Rattle.report_sums.proofs.checks.all_spare_bits_zero.Goals as goal
 
-pub returns : goal.returns
-returns c = c.all_pass.ensures ∙ not_failed _
+pub returns-then-size-eq0 : goal.returns-then-size-eq0
+returns-then-size-eq0 c =
+    let a = c.args in
+    rw c.if-size-eq0.true (none_fails a.n a.reports a.shares.now (spare_bits_zero c.args.n) c.public_share_length-size.ensures c.if-size-eq0.true)
+
+pub returns-else-size-eq0 : goal.returns-else-size-eq0
+returns-else-size-eq0 c =
+    let a = c.args in
+    let size = c.public_share_length-size in
+    all_from_yields_List (spare_bits_zero c.args.n) _ _ c.all.result c.all.ensures.ran
+    (chunks_yield size.result a.reports a.shares.now (omega arith) c.take.ensures.source c.take.ensures.count c.chunks_exact.ensures.size c.chunks_exact.ensures.rest)
+    (λ x b q k. search (rules, tests))
+    ∙ chunks_pass a.n a.reports a.shares.now (spare_bits_zero c.args.n) size.ensures

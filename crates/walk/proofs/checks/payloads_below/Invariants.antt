@@ -1,16 +1,12 @@
 -- `walk::checks::payloads_below` meets its contract. The loop's invariant: the reader holds the lent share, all levels and the next level, and the test of the levels before it is known.
--- The measure is the number of levels that are left.
-use Rattle.std.proofs.Common.{◌≡◌, ◌-◌, ◌≤◌}
+use Rattle.std.proofs.Common.{◌≡◌}
 use Rattle.walk.proofs.PublicTests.{below}
 use Rattle.walk.proofs.checks.payloads_below.Given as goal
 
-abbrev pub invariant-loop-reader : goal.invariant-loop-reader
-invariant-loop-reader l = record {
+abbrev pub invariant-loop : goal.invariant-loop
+invariant-loop l = record {
   share : l.reader.share.now ≡ l.share;
   levels : l.reader.levels ≡ l.n;
-  next : l.reader.next ≤ l.n;
-  tested : l.below ≡ below l.n l.share l.reader.next;
+  next : l.reader.next ≡ l.counter;
+  tested : l.below ≡ below l.n l.share l.counter;
 }
-
-abbrev pub decreases-loop-reader : goal.decreases-loop-reader
-decreases-loop-reader l = l.n - l.reader.next

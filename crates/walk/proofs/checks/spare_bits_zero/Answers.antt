@@ -6,9 +6,9 @@ use Rattle.walk.proofs.checks.spare_bits_zero.Goals as goal
 pub returns-then-m-eq0 : goal.returns-then-m-eq0
 returns-then-m-eq0 c =
     let a = c.args in
-    sym (spare_full a.n a.share.now c.if-m-eq0.true)
+    rw c.if-m-eq0.true (sym (spare_full a.n a.share.now c.if-m-eq0.true))
 
-pub returns : goal.returns
-returns c =
+pub returns-else-m-eq0 : goal.returns-else-m-eq0
+returns-else-m-eq0 c =
     let a = c.args in
     rw c.byte_at.ensures (sym (spare_last a.n a.share.now c.if-m-eq0.false))

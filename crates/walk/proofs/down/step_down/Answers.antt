@@ -20,8 +20,8 @@ returns c =
     let word = c.read_correction-word in
     let m = node_of c.corrected_child-child.result in
     let drawn : c.draw.result ≡ payload_of (scheme a.e) m =
-    c.draw.ensures.0 ∙ ap (λ (b : List ℕ). from_little (take 8 b) % p) c.two_blocks-blocks.ensures.1 in record {
-      node_value = descend_block a.e (correction_of word.result) a.x (node_of a.m) m c.corrected_child-child.ensures c.two_blocks-blocks.ensures.0
+    c.draw.ensures.0 ∙ ap (λ (b : List ℕ). from_little (take 8 b) % p) c.two_blocks.ensures.1 in record {
+      node_value = descend_block a.e (correction_of word.result) a.x (node_of a.m) m c.corrected_child-child.ensures c.two_blocks.ensures.0
           ∙ ap (λ (w : Correction ℕ). descend (scheme a.e) w a.x (node_of a.m)) word.ensures;
       share_value = below_share a.e (correction_of word.result) a.x (node_of a.m) m a.b c.corrected_child-child.ensures drawn c.with_correction-value.ensures c.as_share.ensures
           ∙ ap (λ (w : Correction ℕ). share_below (scheme a.e) a.b w a.x (node_of a.m)) word.ensures;

@@ -1,26 +1,17 @@
--- `walk::pairs::same_bits` meets its contract. The loop's invariant: the first k bits agree from place `from` on, which is the measure.
-use mathlib.Core.Path.{◌≡◌}
-use Prim.Native.Nat.{ℕ}
-use native.Mathlib.Omega.{arith}
+-- `walk::pairs::same_bits` meets its contract.
+use Rattle.std.proofs.Common.{rules, tests, ap, sym, ◌∙◌}
+use mathlib.Core.Bool.{beq}
+use Rattle.std.proofs.lemmas.Iterator.Search.{all_from_yields_List}
 use Rattle.bits.specs.Packing.{bits_of}
 use Rattle.point.specs.Evaluation.{bit_of}
-use Rattle.walk.proofs.Siblings.{same_none, same_all, same_more, same_not}
+use Rattle.walk.proofs.Siblings.{down_yields, all_same}
 use Rattle.walk.proofs.pairs.same_bits.Goals as goal
 
-pub loop-from-init : goal.loop-from-init
-loop-from-init c = let a = c.args in (omega arith, same_none (bit_of (bits_of a.first.now)) (bit_of (bits_of a.second.now)) a.k)
-
-pub returns-then-bit_at : goal.returns-then-bit_at
-returns-then-bit_at c =
-    let a = c.args in record { below = (λ e. let z : ◌≡◌ {A = ℕ} 0 1 = cc in absurd (omega arith)); fact = (λ e s. same_not (bit_of (bits_of a.first.now)) (bit_of (bits_of a.second.now)) a.k c.loop-from.from c.loop-from-test.true c.bit_at.ensures c.bit_at-in-loop-from.ensures c.if-bit_at.true c.loop-from.invariant.0 s) }
-
-pub loop-from-preserved : goal.loop-from-preserved
-loop-from-preserved c =
-    let a = c.args in (
-      omega arith,
-      same_more (bit_of (bits_of a.first.now)) (bit_of (bits_of a.second.now)) a.k c.loop-from.from c.loop-from-test.true c.bit_at.ensures c.bit_at-in-loop-from.ensures c.if-bit_at.false c.loop-from.invariant.1,
-    )
-
-pub returns : goal.returns
-returns c =
-    let a = c.args in record { below = (λ e. same_all (bit_of (bits_of a.first.now)) (bit_of (bits_of a.second.now)) a.k c.loop-from.from c.loop-from-test.false c.loop-from.invariant.1); fact = (λ e. let z : ◌≡◌ {A = ℕ} 0 1 = cc in absurd (omega arith)) }
+pub returns-clause-below : goal.returns-clause-below
+returns-clause-below c =
+    let a = c.args in
+    let q = bit_of (bits_of a.first.now) in
+    let q' = bit_of (bits_of a.second.now) in
+    let all =
+    all_from_yields_List (λ i. beq (q i) (q' i)) c.all.new.self _ c.all.result c.all.ensures.ran (down_yields a.k (ap (λ r. r.start) c.rev.ensures.source) (ap (λ r. r.end) c.rev.ensures.source)) (λ x b q k. search (rules, tests)) in
+    λ e. all_same q q' a.k (sym all ∙ e)
