@@ -1,2 +1,3 @@
 pub mod KeyPage
 pub mod KeyAnswer
+pub mod KeyParts

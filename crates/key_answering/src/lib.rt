@@ -12,52 +12,57 @@ ghost use Rattle.exam_lines.specs.Lines.{written_in};
 ghost use Rattle.key_answering.specs.KeyPage.{page, page_space};
 ghost use Rattle.key_answering.specs.KeyAnswer.{line_page, respond_outcome};
 
-use crate::page::write_page;
+use crate::page::Key;
 use bits::packed_length;
 use calls::Reply;
 use exam_lines::{refused_line, write_text};
-use exam_reading::{read_key_line, read_line};
+use exam_reading::{KeyHead, read_key_line, read_line};
 use expander::{Choice, Expander};
 use nodes::public_share_length;
 
 mod lines;
 mod page;
 
-// Makes the public share of the line at a place of a text, with the weight 1, under an expander and its number, and writes its page into the beginning of `out`.
-fn print_line(
-    text: &[u8],
-    place: usize,
-    n: u16,
-    number: u64,
-    e: Expander,
-    share: &mut [u8],
-    out: &mut [u8],
-) -> usize
-    requires le_n { (1 ≤ n) × (n ≤ 32) × (choice_of number ≡ Known e) × (has_line n place text.now ≡ true) }
+// Makes the public share of the line of a key, with the weight 1, under its expander, and writes its page into the beginning of `out`.
+fn print_line(text: &[u8], head: KeyHead, e: Expander, share: &mut [u8], out: &mut [u8]) -> usize
+    requires le_n { (1 ≤ head.n) × (head.n ≤ 32) × (choice_of head.expander ≡ Known e) × (has_line head.n head.place text.now ≡ true) }
     requires share_len { (length share.old ≡ 776) × (page_space ≤ length out.old) }
-    ensures value { (result ≡ length (line_page n (line_at n place text.now) e)) × (result ≤ page_space) }
-    ensures out_after { out.new ≡ overlay (line_page n (line_at n place text.now) e) out.old }
+    ensures value { (result ≡ length (line_page head.n (line_at head.n head.place text.now) e)) × (result ≤ page_space) }
+    ensures out_after { out.new ≡ overlay (line_page head.n (line_at head.n head.place text.now) e) out.old }
 {
-    let line = read_line(text, place, n);
-    let string = line.string;
-    let seed0 = line.seed0;
-    let seed1 = line.seed1;
+    let n = head.n;
+    let line = read_line(text, head.place, n);
     let end = packed_length(n as usize);
-    let packed = &string[..end];
-    keymaker::make_key(n as u64, number, 1, packed, &seed0, &seed1, share);
+    let packed = &line.string[..end];
+    keymaker::make_key(
+        n as u64,
+        head.expander,
+        1,
+        packed,
+        &line.seed0,
+        &line.seed1,
+        share,
+    );
     let size = public_share_length(n);
-    write_page(e, n, packed, seed0, seed1, &share[..size], out)
+    let key = Key {
+        e,
+        n,
+        string: packed,
+        seed0: line.seed0,
+        seed1: line.seed1,
+        share: &share[..size],
+    };
+    key.write_page(out)
 }
 
-// Writes the page of the line at a place of a text; refuses with 11 where it does not fit.
-fn print(text: &[u8], place: usize, n: u16, number: u64, e: Expander, out: &mut [u8]) -> Reply
-    requires { (1 ≤ n) × (n ≤ 32) × (choice_of number ≡ Known e) × (has_line n place text.now ≡ true) }
-    ensures { left result out.new ≡ exit (written_in (line_page n (line_at n place text.now) e) (length out.old))
-        out.old }
+// Writes the page of the line of a key; refuses with 11 where it does not fit.
+fn print(text: &[u8], head: KeyHead, e: Expander, out: &mut [u8]) -> Reply
+    requires { (1 ≤ head.n) × (head.n ≤ 32) × (choice_of head.expander ≡ Known e) × (has_line head.n head.place text.now ≡ true) }
+    ensures { left result out.new ≡ exit (written_in (line_page head.n (line_at head.n head.place text.now) e) (length out.old)) out.old }
 {
     let mut share = [0u8; 776];
     let mut printed = [0u8; 10425];
-    let end = print_line(text, place, n, number, e, &mut share, &mut printed);
+    let end = print_line(text, head, e, &mut share, &mut printed);
     write_text(&printed[..end], out)
 }
 
@@ -65,14 +70,14 @@ fn print(text: &[u8], place: usize, n: u16, number: u64, e: Expander, out: &mut 
 pub fn respond(text: &[u8], out: &mut [u8]) -> Reply
     ensures { left result out.new ≡ exit (respond_outcome text.now (length out.old)) out.old }
 {
-    let Some(line) = read_key_line(text) else {
+    let Some(head) = read_key_line(text) else {
         return refused_line(10, out);
     };
-    if line.n < 1 {
+    if head.n < 1 {
         return refused_line(1, out);
     }
-    match expander::choose(line.expander) {
-        Choice::Known(e) => print(text, line.place, line.n, line.expander, e, out),
+    match expander::choose(head.expander) {
+        Choice::Known(e) => print(text, head, e, out),
         Choice::Unknown => refused_line(3, out),
     }
 }

@@ -1,11 +1,10 @@
 // The page of a string: its public share, level by level, and both servers' shares at its prefixes and beside them. Each function gives back the
 // place behind what it wrote.
-ghost use Rattle.std.specs.Prelude.{◌≡◌, true, false, ◌+◌, ◌≤◌, ◌<◌, length, take};
+ghost use Rattle.std.specs.Prelude.{◌≡◌, true, false, ◌+◌, ◌≤◌, ◌<◌, length};
 ghost use Rattle.places.specs.Places.{put_at, overlay};
-ghost use Rattle.bits.specs.Strings.{◌▹◌};
-ghost use Rattle.bits.specs.Packing.{packed_length, unpack};
-ghost use Rattle.point.specs.PublicShare.{joined, public_share_length, read_correction};
-ghost use Rattle.key_answering.specs.KeyPage.{level_line, shares_line_at, path_lines, page, page_space};
+ghost use Rattle.point.specs.PublicShare.{joined, public_share_length};
+ghost use Rattle.key_answering.specs.KeyPage.{page_space};
+ghost use Rattle.key_answering.specs.KeyParts.{IsPacked, levels_of, side_of, pair_of, page_of};
 
 use crate::lines::{write_control, write_level, write_shares};
 use bits::{bit_at, packed_length, write_child};
@@ -19,125 +18,94 @@ const PREFIX: [u8; 6] = *b"prefix";
 // The word `beside`.
 const BESIDE: [u8; 6] = *b"beside";
 
-// Writes the lines of all n levels of a public share.
-fn write_levels(share: &[u8], n: u16, out: &mut [u8], at: usize) -> usize
-    requires { at + length (joined n (λ k. level_line k (read_correction n share.now k))) ≤ length out.old }
-    ensures value { result ≡ at + length (joined n (λ k. level_line k (read_correction n share.now k))) }
-    ensures out_after { out.new ≡ put_at out.old at (joined n (λ k. level_line k (read_correction n share.now k))) }
-{
-    let mut here = at;
-    let mut k: u16 = 0;
-    while k < n {
-        here = write_level(share, n, k, out, here);
-        k += 1;
+// A string of n bits, its two root seeds and its public share, under an expander.
+#[derive(Clone, Copy)]
+pub(crate) struct Key<'a> {
+    pub(crate) e: Expander,
+    pub(crate) n: u16,
+    pub(crate) string: &'a [u8],
+    pub(crate) seed0: [u8; 16],
+    pub(crate) seed1: [u8; 16],
+    pub(crate) share: &'a [u8],
+}
+
+impl Key<'_> {
+    // Writes the lines of all n levels of the public share.
+    // It is a twin of `write_path`: a function that takes the lines of a turn as a closure over `out` would be longer than both loops.
+    fn write_levels(self, out: &mut [u8], at: usize) -> usize
+        requires { at + length (levels_of self) ≤ length out.old }
+        ensures value { result ≡ at + length (levels_of self.entry) }
+        ensures out_after { out.new ≡ put_at out.old at (levels_of self.entry) }
+    {
+        let mut here = at;
+        for k in 0..self.n {
+            here = write_level(self.share, self.n, k, out, here);
+        }
+        here
     }
-    here
-}
 
-// Writes the line of the prefix that has the first k bits of a packed string of n bits and then `bit`.
-fn write_side(
-    e: Expander,
-    n: u16,
-    string: &[u8],
-    seed0: [u8; 16],
-    seed1: [u8; 16],
-    share: &[u8],
-    word: &[u8],
-    k: u16,
-    bit: bool,
-    out: &mut [u8],
-    at: usize,
-) -> usize
-    requires k_lt_n { (k < n) × (n ≤ 32) × (length string.now ≡ packed_length n) }
-    requires bit_in_bounds { at + length (shares_line_at e n (unpack n string.now) seed0 seed1 share.now word.now (take k (unpack n string.now) ▹ bit)) ≤ length out.old }
-    ensures value { result ≡ at + length (shares_line_at e n (unpack n string.now) seed0 seed1 share.now word.now
-        (take k (unpack n string.now) ▹ bit)) }
-    ensures out_after { out.new ≡ put_at out.old at (shares_line_at e n (unpack n string.now) seed0 seed1 share.now
-        word.now (take k (unpack n string.now) ▹ bit)) }
-{
-    let length = k + 1;
-    let mut child = [0u8; 4];
-    write_child(string, k as usize, bit, &mut child, 0);
-    let end = packed_length(length as usize);
-    let prefix = &child[..end];
-    let zero = shares_at(e, n, share, seed0, false, prefix, prefix, length);
-    let one = shares_at(e, n, share, seed1, true, prefix, prefix, length);
-    write_shares(
-        word,
-        prefix,
-        length as usize,
-        zero.first,
-        one.first,
-        out,
-        at,
-    )
-}
-
-// Writes the lines of the prefix that ends with bit k of a packed string of n bits, and of the one beside it.
-fn write_pair(
-    e: Expander,
-    n: u16,
-    string: &[u8],
-    seed0: [u8; 16],
-    seed1: [u8; 16],
-    share: &[u8],
-    k: u16,
-    out: &mut [u8],
-    at: usize,
-) -> usize
-    requires k_lt_n { (k < n) × (n ≤ 32) × (length string.now ≡ packed_length n) }
-    requires k_in_bounds { at + length (path_lines e n (unpack n string.now) seed0 seed1 share.now k) ≤ length out.old }
-    ensures value { result ≡ at + length (path_lines e n (unpack n string.now) seed0 seed1 share.now k) }
-    ensures out_after { out.new ≡ put_at out.old at (path_lines e n (unpack n string.now) seed0 seed1 share.now k) }
-{
-    let own = bit_at(string, k as usize);
-    let here = write_side(e, n, string, seed0, seed1, share, &PREFIX, k, own, out, at);
-    write_side(
-        e, n, string, seed0, seed1, share, &BESIDE, k, !own, out, here,
-    )
-}
-
-// Writes these lines for every bit of the string.
-fn write_path(
-    e: Expander,
-    n: u16,
-    string: &[u8],
-    seed0: [u8; 16],
-    seed1: [u8; 16],
-    share: &[u8],
-    out: &mut [u8],
-    at: usize,
-) -> usize
-    requires n_bound { (n ≤ 32) × (length string.now ≡ packed_length n) }
-    requires share_in_bounds { at + length (joined n (path_lines e n (unpack n string.now) seed0 seed1 share.now)) ≤ length out.old }
-    ensures value { result ≡ at + length (joined n (path_lines e n (unpack n string.now) seed0 seed1 share.now)) }
-    ensures out_after { out.new ≡ put_at out.old at (joined n (path_lines e n (unpack n string.now) seed0 seed1 share.now)) }
-{
-    let mut here = at;
-    let mut k: u16 = 0;
-    while k < n {
-        here = write_pair(e, n, string, seed0, seed1, share, k, out, here);
-        k += 1;
+    // Writes the line of the prefix that has the first k bits of the string and then `bit`.
+    fn write_side(self, word: &[u8], k: u16, bit: bool, out: &mut [u8], at: usize) -> usize
+        requires packed { IsPacked self × (k < self.n) }
+        requires room { at + length (side_of self word.now k bit) ≤ length out.old }
+        ensures value { result ≡ at + length (side_of self.entry word.now k bit) }
+        ensures out_after { out.new ≡ put_at out.old at (side_of self.entry word.now k bit) }
+    {
+        let Key { e, n, share, .. } = self;
+        let length = k + 1;
+        let mut child = [0u8; 4];
+        write_child(self.string, k as usize, bit, &mut child, 0);
+        let end = packed_length(length as usize);
+        let prefix = &child[..end];
+        let zero = shares_at(e, n, share, self.seed0, false, prefix, prefix, length);
+        let one = shares_at(e, n, share, self.seed1, true, prefix, prefix, length);
+        write_shares(
+            word,
+            prefix,
+            length as usize,
+            zero.first,
+            one.first,
+            out,
+            at,
+        )
     }
-    here
-}
 
-// Writes the page of a packed string of n bits, its two root seeds and its public share into the beginning of `out`.
-pub(crate) fn write_page(
-    e: Expander,
-    n: u16,
-    string: &[u8],
-    seed0: [u8; 16],
-    seed1: [u8; 16],
-    share: &[u8],
-    out: &mut [u8],
-) -> usize
-    requires { (n ≤ 32) × (length string.now ≡ packed_length n) × (length share.now ≡ public_share_length n) × (page_space ≤ length out.old) }
-    ensures value { result ≡ length (page e n (unpack n string.now) seed0 seed1 share.now) }
-    ensures out_after { out.new ≡ overlay (page e n (unpack n string.now) seed0 seed1 share.now) out.old }
-{
-    let control = level_start(n, 0);
-    let levels = write_control(&share[..control], out, 0);
-    let path = write_levels(share, n, out, levels);
-    write_path(e, n, string, seed0, seed1, share, out, path)
+    // Writes the lines of the prefix that ends with bit k of the string, and of the one beside it.
+    fn write_pair(self, k: u16, out: &mut [u8], at: usize) -> usize
+        requires packed { IsPacked self × (k < self.n) }
+        requires room { at + length (pair_of self k) ≤ length out.old }
+        ensures value { result ≡ at + length (pair_of self.entry k) }
+        ensures out_after { out.new ≡ put_at out.old at (pair_of self.entry k) }
+    {
+        let own = bit_at(self.string, k as usize);
+        let here = self.write_side(&PREFIX, k, own, out, at);
+        self.write_side(&BESIDE, k, !own, out, here)
+    }
+
+    // Writes these lines for every bit of the string.
+    fn write_path(self, out: &mut [u8], at: usize) -> usize
+        requires packed { IsPacked self }
+        requires room { at + length (joined self.n (pair_of self)) ≤ length out.old }
+        ensures value { result ≡ at + length (joined self.entry.n (pair_of self.entry)) }
+        ensures out_after { out.new ≡ put_at out.old at (joined self.entry.n (pair_of self.entry)) }
+    {
+        let mut here = at;
+        for k in 0..self.n {
+            here = self.write_pair(k, out, here);
+        }
+        here
+    }
+
+    // Writes the page of the key into the beginning of `out`.
+    pub(crate) fn write_page(self, out: &mut [u8]) -> usize
+        requires packed { IsPacked self × (length self.share.now ≡ public_share_length self.n) }
+        requires room { page_space ≤ length out.old }
+        ensures value { result ≡ length (page_of self.entry) }
+        ensures out_after { out.new ≡ overlay (page_of self.entry) out.old }
+    {
+        let control = level_start(self.n, 0);
+        let levels = write_control(&self.share[..control], out, 0);
+        let path = self.write_levels(out, levels);
+        self.write_path(out, path)
+    }
 }

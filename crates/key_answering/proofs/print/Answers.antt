@@ -14,7 +14,7 @@ use Rattle.key_answering.proofs.print.Goals.{After-print_line-end}
 
 -- the page
 abbrev whole : After-print_line-end → List ℕ
-whole p = let a = p.args in line_page a.n (line_at a.n a.place a.text.now) a.e
+whole p = let a = p.args in line_page a.head.n (line_at a.head.n a.head.place a.text.now) a.e
 
 size_is : (p : After-print_line-end) → p.print_line-end.result ≡ length (whole p)
 size_is p = p.print_line-end.ensures.value.0

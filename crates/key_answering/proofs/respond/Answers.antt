@@ -11,20 +11,20 @@ use Rattle.exam_lines.specs.Lines.{written_in}
 use Rattle.key_answering.specs.KeyAnswer.{line_page}
 use Rattle.key_answering.proofs.Responding.{none_responds, no_bits_responds, unknown_responds, page_responds}
 use Rattle.key_answering.proofs.respond.Goals as goal
-use Rattle.key_answering.proofs.respond.Goals.{Else-line-lt1, In-Some}
+use Rattle.key_answering.proofs.respond.Goals.{Else-head-lt1, In-Some}
 
 -- the text is a key line, and what it says
 is_line_lem : (e : In-Some) → is_key_line e.args.text.now ≡ true
 is_line_lem e = sym e.in-Some.ensures.key
 
-says : (e : In-Some) → let r = e.in-Some.line in KeyLineSays e.args.text.now r.n r.expander r.place
+says : (e : In-Some) → let r = e.in-Some.head in KeyLineSays e.args.text.now r.n r.expander r.place
 says e = e.in-Some.ensures.says
 
 -- it has bits, and at most 32
-some : (e : Else-line-lt1) → 1 ≤ (key_line_of e.args.text.now).n
-some e = let told = e.in-Some.ensures.says in rw (← told.n_read) (omega (arith, e.if-line-lt1.false))
+some : (e : Else-head-lt1) → 1 ≤ (key_line_of e.args.text.now).n
+some e = let told = e.in-Some.ensures.says in rw (← told.n_read) (omega (arith, e.if-head-lt1.false))
 
-few : (e : Else-line-lt1) → (key_line_of e.args.text.now).n ≤ 32
+few : (e : Else-head-lt1) → (key_line_of e.args.text.now).n ≤ 32
 few e = let told = e.in-Some.ensures.says in rw (← told.n_read) told.n_most
 
 pub returns-in_default : goal.returns-in_default
@@ -32,16 +32,16 @@ returns-in_default c =
     let a = c.args in
     c.refused_line.ensures ∙ ap (λ (o : Outcome). exit o a.out.now) (none_responds a.text.now (length a.out.now) (sym c.in_default.ensures.key))
 
-pub returns-then-line-lt1 : goal.returns-then-line-lt1
-returns-then-line-lt1 c =
+pub returns-then-head-lt1 : goal.returns-then-head-lt1
+returns-then-head-lt1 c =
     let a = c.args in
-    c.refused_line-then-line-lt1.ensures
-    ∙ ap (λ (o : Outcome). exit o a.out.now) (no_bits_responds a.text.now (length a.out.now) (is_line_lem (goal.at.returns-then-line-lt1 c).In-Some) (rw (says (goal.at.returns-then-line-lt1 c).In-Some).n_read at c.if-line-lt1.true))
+    c.refused_line-then-head-lt1.ensures
+    ∙ ap (λ (o : Outcome). exit o a.out.now) (no_bits_responds a.text.now (length a.out.now) (is_line_lem (goal.at.returns-then-head-lt1 c).In-Some) (rw (says (goal.at.returns-then-head-lt1 c).In-Some).n_read at c.if-head-lt1.true))
 
 pub print-requires : goal.print-requires
 print-requires c =
     let told = says (goal.at.print-requires c).In-Some in
-    (omega (arith, c.if-line-lt1.false), told.n_most, sym c.choose.ensures ∙ c.in-Known.is, told.stands)
+    (omega (arith, c.if-head-lt1.false), told.n_most, sym c.choose.ensures ∙ c.in-Known.is, told.stands)
 
 pub returns-in-Known : goal.returns-in-Known
 returns-in-Known c =
@@ -50,11 +50,11 @@ returns-in-Known c =
     let known = sym c.choose.ensures ∙ c.in-Known.is in
     c.print.ensures
     ∙ ap₂ (λ (m : ℕ) (k : Line). exit (written_in (line_page m k c.in-Known.e) (length a.out.now)) a.out.now) told.n_read told.line_read
-    ∙ ap (λ (o : Outcome). exit o a.out.now) (page_responds a.text.now (length a.out.now) (is_line_lem (goal.at.returns-in-Known c).In-Some) (some (goal.at.returns-in-Known c).Else-line-lt1) (few (goal.at.returns-in-Known c).Else-line-lt1) _ (rw told.expander_read at known))
+    ∙ ap (λ (o : Outcome). exit o a.out.now) (page_responds a.text.now (length a.out.now) (is_line_lem (goal.at.returns-in-Known c).In-Some) (some (goal.at.returns-in-Known c).Else-head-lt1) (few (goal.at.returns-in-Known c).Else-head-lt1) _ (rw told.expander_read at known))
 
 pub returns-in-Unknown : goal.returns-in-Unknown
 returns-in-Unknown c =
     let a = c.args in
     let unknown = sym c.choose.ensures ∙ c.in-Unknown.is in
     c.refused_line-in-Unknown.ensures
-    ∙ ap (λ (o : Outcome). exit o a.out.now) (unknown_responds a.text.now (length a.out.now) (is_line_lem (goal.at.returns-in-Unknown c).In-Some) (some (goal.at.returns-in-Unknown c).Else-line-lt1) (few (goal.at.returns-in-Unknown c).Else-line-lt1) (rw (says (goal.at.returns-in-Unknown c).In-Some).expander_read at unknown))
+    ∙ ap (λ (o : Outcome). exit o a.out.now) (unknown_responds a.text.now (length a.out.now) (is_line_lem (goal.at.returns-in-Unknown c).In-Some) (some (goal.at.returns-in-Unknown c).Else-head-lt1) (few (goal.at.returns-in-Unknown c).Else-head-lt1) (rw (says (goal.at.returns-in-Unknown c).In-Some).expander_read at unknown))
