@@ -1,23 +1,19 @@
 -- What stays within bounds at a turn, and the place of a turn from its parts.
-use Prim.Native.Nat.{ℕ, zero, suc, ◌+◌, ◌-◌, ◌*◌, ◌/◌, ◌%◌, ◌≤◌, ◌<◌, min}
+use Prim.Native.Nat.{ℕ, zero, suc, ◌+◌, ◌-◌, ◌*◌, ◌/◌, ◌≤◌, ◌<◌, min}
 use native.Mathlib.Omega.{arith}
 use native.Mathlib.Nat.{mul-le-mul_right, div-lt_iff_lt-mul}
 use native.Mathlib.Decide.{dec_lt}
 use mathlib.Core.Path.{◌≡◌}
-use mathlib.Core.Bool.{Bool, true, false, cond, beq}
+use mathlib.Core.Bool.{Bool, true, false, cond}
 use mathlib.Core.List.{List}
-use borrow.Author.Tests.{lt-ltb, le-ltb, eq-eqb, ne_eqb}
+use borrow.Author.Tests.{lt-ltb, le-ltb}
 use lib.Dec.{ltb}
 use lib.ListN.{length}
 use Rattle.places.specs.Places.{put_at}
 use Rattle.places.proofs.Places.{put_at_outside}
 use Rattle.numbers.specs.Numbers.{little}
 use Rattle.numbers.proofs.Endian.{little_length}
-use Rattle.query.specs.Prefix.{packed_prefix}
-use Rattle.parents.specs.Lookup.{is_parent, up_from, down_from, looked_up}
-use Rattle.turns.specs.Turns.{nowhere, place_for}
-use Rattle.turns.specs.declared.Task.{Task}
-use Rattle.turns.specs.declared.Place.{Place}
+use Rattle.parents.specs.Lookup.{up_from, down_from, looked_up}
 
 -- ---- bounds
 
@@ -83,37 +79,6 @@ from_small r a m target parent some h k l e =
     let b : target / a < r = (div-lt_iff_lt-mul {k = a} {x = target} {y = r} some).1 h in
     let s : target / a ≤ 65535 = omega arith in
     omega (arith, mul-le-mul_right m s)
-
--- ---- the place
-
-module _ (t : Task) (last query : List ℕ) (left hint : ℕ) where
-  pub placed_end : left ≡ 0 → nowhere left ≡ place_for t last query left hint
-  unfolding place_for
-  placed_end e = rw (eq-eqb left 0 e)
-
-  module _ (some : left ≡ 0 → ⊥) where
-    pub placed_none : t.reports * t.after ≡ 0 → nowhere left ≡ place_for t last query left hint
-    unfolding place_for
-    placed_none e = rw (ne_eqb left 0 some, eq-eqb (t.reports * t.after) 0 e)
-
-    pub placed : (t.reports * t.after ≡ 0 → ⊥)
-        → (target : ℕ) → target ≡ cond (ltb (t.reports * t.after) left) (t.reports * t.after + t.reports * t.after - left) (left - 1)
-        → (child : List ℕ) → child ≡ packed_prefix query (target % t.after)
-        → (parent : ℕ) → parent ≡ looked_up (ltb (t.reports * t.after) left) (is_parent last child t.level) t.before hint
-        → (due : Bool) → due ≡ beq (ltb (t.reports * t.after) left) (ltb target (target / t.after * t.before + parent))
-        → (source : ℕ) → source ≡ cond due (target / t.after * t.before + parent) target
-        → ◌≡◌ {A = Place} (record {
-          left = left;
-          report = target / t.after;
-          prefix = target % t.after;
-          parent = parent;
-          due = due;
-          source = source;
-          target = target;
-        }) (place_for t last query left hint)
-    unfolding place_for
-    placed nodes target e child d parent f due g source h =
-        rw (ne_eqb left 0 some, ne_eqb (t.reports * t.after) 0 nodes, h, g, f, d, e)
 
 -- a number that would end past the area is not written
 pub not_written : (j v : ℕ) (l : List ℕ) → length l < 8 * j + 8 → put_at l (8 * j) (little 8 v) ≡ l

@@ -66,16 +66,14 @@ fn target_of(count: usize, left: usize) -> usize
 }
 
 // The place with `left` turns left, its parent looked for from `hint` on.
+#[tactic(auto, using(crate::proofs::Placing::count_small, crate::proofs::Placing::count_some, crate::proofs::Placing::target_below, crate::proofs::Placing::from_small, crate::proofs::Placing::looked_most), unfolding(crate::specs::Turns::place_for))]
 fn place_for(task: Task, last: &[u8], query: &[u8], left: usize, hint: usize) -> Place
     ensures { result ≡ place_for task last.now query.now left hint }
 {
-    if left == 0 {
-        return nowhere(left);
-    }
     let after = task.after as usize;
     let before = task.before as usize;
     let count = task.reports as usize * after;
-    if count == 0 {
+    if left == 0 || count == 0 {
         return nowhere(left);
     }
     let up = count < left;
@@ -127,6 +125,7 @@ fn add_at(out: &mut [u8], j: usize, share: u64)
 }
 
 // One turn: what it makes of the node at its source and of the sums; the node to write, and the next place.
+#[tactic(auto, unfolding(crate::specs::Turns::turned_node, crate::specs::Turns::turned_sums))]
 pub fn turn(
     task: Task,
     shares: &[u8],
@@ -153,6 +152,7 @@ pub fn turn(
 }
 
 // Judges a call that is lent `count` nodes, and makes its sums zero where no cause applies.
+#[tactic(auto, using(crate::proofs::Begun::begun_ready), unfolding(crate::specs::Turns::cleared, places::specs::Places::overlay))]
 pub fn begin(
     n: u64,
     expander: u64,
