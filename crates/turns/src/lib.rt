@@ -124,6 +124,7 @@ fn add_at(out: &mut [u8], j: usize, share: u64)
 }
 
 // One turn: what it makes of the node at its source and of the sums; the node to write, and the next place.
+// What is handed on beside the task is said at `Task`, here and in `advance` of `kept_nodes`.
 pub fn turn(
     task: Task,
     shares: &[u8],
@@ -150,6 +151,7 @@ pub fn turn(
 }
 
 // Judges a call that is lent `count` nodes, and makes its sums zero where no cause applies.
+// C lends these one by one.
 pub fn begin(
     n: u64,
     expander: u64,
