@@ -46,7 +46,12 @@ impl State {
         ensures { bytes_of result ≡ sub_bytes (bytes_of self) }
     {
         let [a, b, c, d] = self.columns;
-        self.columns = [a.sub_word(s_box), b.sub_word(s_box), c.sub_word(s_box), d.sub_word(s_box)];
+        self.columns = [
+            a.sub_word(s_box),
+            b.sub_word(s_box),
+            c.sub_word(s_box),
+            d.sub_word(s_box),
+        ];
         self
     }
 
@@ -69,7 +74,12 @@ impl State {
         ensures { bytes_of result ≡ mix_columns (bytes_of self) }
     {
         let [a, b, c, d] = self.columns;
-        self.columns = [a.mix_column(), b.mix_column(), c.mix_column(), d.mix_column()];
+        self.columns = [
+            a.mix_column(),
+            b.mix_column(),
+            c.mix_column(),
+            d.mix_column(),
+        ];
         self
     }
 
