@@ -36,6 +36,7 @@ fn not_whole(n: u16, shares: &[u8]) -> bool
 }
 
 // Whether fewer nodes are lent than so many reports × prefixes of the last or of the new query.
+#[tactic(auto, using(parents::proofs::Last::last_count_lem, parents::proofs::Last::prefixes_length))]
 fn too_few_nodes(reports: usize, last: &[u8], query: &[u8], count: usize) -> bool
     requires { reports < 65536 }
     ensures { result ≡ too_few_nodes reports last.now query.now count }
@@ -60,18 +61,17 @@ fn check_reports(n: u64, expander: u64, shares: &[u8]) -> Result<Expander, Refus
     if calls::too_many_reports(reports) {
         return Err(Refusal::TooManyReports);
     }
-    let payloads = report_sums::all_payloads_below(levels, reports, shares);
-    let spares = report_sums::all_spare_bits_zero(levels, reports, shares);
-    if !payloads {
+    if !report_sums::all_payloads_below(levels, reports, shares) {
         return Err(Refusal::PayloadTooLarge);
     }
-    if !spares {
+    if !report_sums::all_spare_bits_zero(levels, reports, shares) {
         return Err(Refusal::SpareBits);
     }
     Ok(e)
 }
 
 // The first cause of the queries, the nodes and the space that applies.
+#[tactic(auto, using(parents::proofs::Parented::missing_exact))]
 fn check_queries(
     n: u64,
     reports: usize,
@@ -83,22 +83,16 @@ fn check_queries(
     requires { reports < 65536 }
     ensures { number_in result ≡ number_due (query_causes n reports last.now query.now count room) }
 {
-    if !parents::is_last(n, last) {
+    if !parents::is_last(n, last) || !query::is_query(n, query) {
         return Err(Refusal::Query);
     }
-    if !query::is_query(n, query) {
-        return Err(Refusal::Query);
-    }
-    let few = too_few_nodes(reports, last, query, count);
-    let missing = parents::parent_missing(last, query);
-    let short = room < 8 * query::prefix_count(query);
-    if few {
+    if too_few_nodes(reports, last, query, count) {
         return Err(Refusal::Nodes);
     }
-    if missing {
+    if parents::parent_missing(last, query) {
         return Err(Refusal::NoParent);
     }
-    if short {
+    if room < 8 * query::prefix_count(query) {
         return Err(Refusal::NoSpace);
     }
     Ok(())
@@ -142,6 +136,7 @@ pub fn count_roots(seeds: &[u8], count: usize) -> Result<usize, Refusal>
 }
 
 // The 16 bytes of seed i; zeros where they are not all there.
+#[tactic(auto, using(places::proofs::Places::window_outside))]
 fn seed_at(seeds: &[u8], i: usize) -> [u8; 16]
     ensures { result ≡ window 16 (16 * i) seeds.now }
 {
@@ -152,6 +147,7 @@ fn seed_at(seeds: &[u8], i: usize) -> [u8; 16]
 }
 
 // The node at root i.
+#[tactic(auto, unfolding(crate::specs::Filling::root_node))]
 pub fn root(server: bool, seeds: &[u8], i: usize) -> Node
     ensures { result ≡ root_node server seeds.now i }
 {

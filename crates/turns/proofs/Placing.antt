@@ -8,6 +8,11 @@ use mathlib.Core.Bool.{Bool, true, false, cond, beq}
 use mathlib.Core.List.{List}
 use borrow.Author.Tests.{lt-ltb, le-ltb, eq-eqb, ne_eqb}
 use lib.Dec.{ltb}
+use lib.ListN.{length}
+use Rattle.places.specs.Places.{put_at}
+use Rattle.places.proofs.Places.{put_at_outside}
+use Rattle.numbers.specs.Numbers.{little}
+use Rattle.numbers.proofs.Endian.{little_length}
 use Rattle.query.specs.Prefix.{packed_prefix}
 use Rattle.parents.specs.Lookup.{is_parent, up_from, down_from, looked_up}
 use Rattle.turns.specs.Turns.{nowhere, place_for}
@@ -109,3 +114,7 @@ module _ (t : Task) (last query : List ℕ) (left hint : ℕ) where
     unfolding place_for
     placed nodes target e child d parent f due g source h =
         rw (ne_eqb left 0 some, ne_eqb (t.reports * t.after) 0 nodes, h, g, f, d, e)
+
+-- a number that would end past the area is not written
+pub not_written : (j v : ℕ) (l : List ℕ) → length l < 8 * j + 8 → put_at l (8 * j) (little 8 v) ≡ l
+not_written j v l h = put_at_outside l (8 * j) (little 8 v) (rw (little_length 8 v) (omega arith))

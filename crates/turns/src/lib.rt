@@ -98,6 +98,7 @@ fn place_for(task: Task, last: &[u8], query: &[u8], left: usize, hint: usize) ->
 }
 
 // The first place.
+#[tactic(auto, using(crate::proofs::Placing::count_small), unfolding(crate::specs::Turns::first_place))]
 pub fn first(task: Task, last: &[u8], query: &[u8]) -> Place
     ensures { result ≡ first_place task last.now query.now }
 {
@@ -106,6 +107,7 @@ pub fn first(task: Task, last: &[u8], query: &[u8]) -> Place
 }
 
 // The place after another.
+#[tactic(auto, unfolding(crate::specs::Turns::next_place))]
 fn after(task: Task, last: &[u8], query: &[u8], at: Place) -> Place
     ensures { result ≡ next_place task last.now query.now at }
 {
@@ -113,6 +115,7 @@ fn after(task: Task, last: &[u8], query: &[u8], at: Place) -> Place
 }
 
 // Adds a share to the sum at place j.
+#[tactic(auto, using(crate::proofs::Placing::not_written), unfolding(crate::specs::Turns::added_at))]
 fn add_at(out: &mut [u8], j: usize, share: u64)
     ensures { out.new ≡ added_at j share out.old }
 {

@@ -1,6 +1,6 @@
 -- `capi::one_block::write_block` meets its contract: at each return the tests that led there say which outcome is the call's.
 use mathlib.Core.Path.{◌≡◌, refl, sym, ap, ◌∙◌}
-use mathlib.Core.List.{List, []}
+use mathlib.Core.List.{List}
 use lib.ListN.{length}
 use Prim.Native.Nat.{ℕ}
 use native.Mathlib.Omega.{arith}
