@@ -28,7 +28,7 @@ fn write_key(
         seed1.now (public_share_length n)).written }
 {
     let end = at + public_share_length(n);
-    keymaker::make_key(
+    let _ = keymaker::make_key(
         n as u64,
         expander,
         1,

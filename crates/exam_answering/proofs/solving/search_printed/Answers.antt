@@ -13,62 +13,62 @@ use Rattle.honest.proofs.Reading.{record_whole, list_whole}
 use Rattle.honest.proofs.Demand3.{record_headed}
 use Rattle.exam_answering.specs.Printing.{printed}
 use Rattle.exam_answering.proofs.solving.search_printed.Goals as goal
-use Rattle.exam_answering.proofs.solving.search_printed.Goals.{After-search-found}
+use Rattle.exam_answering.proofs.solving.search_printed.Goals.{After-from-found}
 
 -- the search
-abbrev asked : After-search-found → Lent
+abbrev asked : After-from-found → Lent
 asked k =
     let a = k.args in
     lent a.sheet.n false a.sheet.t a.sheet.expander a.seeds0.now a.shares.now a.seeds1.now a.shares.now a.area.now a.list.now
 
-abbrev recorded : After-search-found → List ℕ
-recorded k = k.search-found.new.record
+abbrev recorded : After-from-found → List ℕ
+recorded k = k.search.new.record
 
-abbrev listed : After-search-found → List ℕ
-listed k = k.search-found.new.list
+abbrev listed : After-from-found → List ℕ
+listed k = k.search.new.list
 
-record_told : (k : After-search-found) → k.search-found.result.record_length ≡ record_length (asked k)
-record_told k = ap (λ (x : Ending). x.record_length) k.search-found.ensures
+record_told : (k : After-from-found) → k.from-found.result.record_length ≡ record_length (asked k)
+record_told k = ap (λ (x : Ending). x.record_length) (k.from-found.ensures _ _ ∙ k.search.ensures)
 
-list_told : (k : After-search-found) → k.search-found.result.list_length ≡ list_length (asked k)
-list_told k = ap (λ (x : Ending). x.list_length) k.search-found.ensures
+list_told : (k : After-from-found) → k.from-found.result.list_length ≡ list_length (asked k)
+list_told k = ap (λ (x : Ending). x.list_length) (k.from-found.ensures _ _ ∙ k.search.ensures)
 
-record_is : (k : After-search-found) → take k.search-found.result.record_length (recorded k) ≡ record_read (asked k)
-record_is k = ap₂ take (record_told k) (ap (λ (x : Ending). x.record_area) k.search-found.ensures)
+record_is : (k : After-from-found) → take k.from-found.result.record_length (recorded k) ≡ record_read (asked k)
+record_is k = ap₂ take (record_told k) (ap (λ (x : Ending). x.record_area) (k.from-found.ensures _ _ ∙ k.search.ensures))
 
-list_is : (k : After-search-found) → take k.search-found.result.list_length (listed k) ≡ list_read (asked k)
-list_is k = ap₂ take (list_told k) (ap (λ (x : Ending). x.list_area) k.search-found.ensures)
+list_is : (k : After-from-found) → take k.from-found.result.list_length (listed k) ≡ list_read (asked k)
+list_is k = ap₂ take (list_told k) (ap (λ (x : Ending). x.list_area) (k.from-found.ensures _ _ ∙ k.search.ensures))
 
-record_size : (k : After-search-found) → length (take k.search-found.result.record_length (recorded k)) ≡ k.search-found.result.record_length
+record_size : (k : After-from-found) → length (take k.from-found.result.record_length (recorded k)) ≡ k.from-found.result.record_length
 record_size k = ap length (record_is k) ∙ (record_whole (asked k) k.requires.le_n.2).0 ∙ sym (record_told k)
 
-list_size_lem : (k : After-search-found) → length (take k.search-found.result.list_length (listed k)) ≡ k.search-found.result.list_length
+list_size_lem : (k : After-from-found) → length (take k.from-found.result.list_length (listed k)) ≡ k.from-found.result.list_length
 list_size_lem k = ap length (list_is k) ∙ (list_whole (asked k) k.requires.le_n.2).0 ∙ sym (list_told k)
 
 -- ---- the needs
 pub slice_bounds-print-end : goal.slice_bounds-print-end
 slice_bounds-print-end c =
-    omega (arith, record_size (goal.at.slice_bounds-print-end c).After-search-found, length-take c.search-found.result.record_length (recorded (goal.at.slice_bounds-print-end c).After-search-found))
+    omega (arith, record_size (goal.at.slice_bounds-print-end c).After-from-found, length-take c.from-found.result.record_length (recorded (goal.at.slice_bounds-print-end c).After-from-found))
 
 pub slice_bounds-print-end-2 : goal.slice_bounds-print-end-2
-slice_bounds-print-end-2 c = sym (record_size (goal.at.slice_bounds-print-end-2 c).After-search-found)
+slice_bounds-print-end-2 c = sym (record_size (goal.at.slice_bounds-print-end-2 c).After-from-found)
 
 pub slice_bounds-print-end-3 : goal.slice_bounds-print-end-3
 slice_bounds-print-end-3 c =
-    omega (arith, list_size_lem (goal.at.slice_bounds-print-end-3 c).After-search-found, length-take c.search-found.result.list_length (listed (goal.at.slice_bounds-print-end-3 c).After-search-found))
+    omega (arith, list_size_lem (goal.at.slice_bounds-print-end-3 c).After-from-found, length-take c.from-found.result.list_length (listed (goal.at.slice_bounds-print-end-3 c).After-from-found))
 
 pub slice_bounds-print-end-4 : goal.slice_bounds-print-end-4
-slice_bounds-print-end-4 c = sym (list_size_lem (goal.at.slice_bounds-print-end-4 c).After-search-found)
+slice_bounds-print-end-4 c = sym (list_size_lem (goal.at.slice_bounds-print-end-4 c).After-from-found)
 
 pub print-requires : goal.print-requires
 print-requires c = (
   c.requires.le_n.0,
   omega (arith, c.requires.le_n.1),
-  rw (record_is (goal.at.print-requires c).After-search-found) (record_headed (asked (goal.at.print-requires c).After-search-found) c.requires.le_n.2),
-  rw (record_is (goal.at.print-requires c).After-search-found) c.requires.rounds,
-  rw (record_is (goal.at.print-requires c).After-search-found, list_is (goal.at.print-requires c).After-search-found) c.requires.list_in_bounds,
+  rw (record_is (goal.at.print-requires c).After-from-found) (record_headed (asked (goal.at.print-requires c).After-from-found) c.requires.le_n.2),
+  rw (record_is (goal.at.print-requires c).After-from-found) c.requires.rounds,
+  rw (record_is (goal.at.print-requires c).After-from-found, list_is (goal.at.print-requires c).After-from-found) c.requires.list_in_bounds,
 )
 
 pub returns : goal.returns
 returns c =
-    let a = c.args in record { value = c.print.ensures.value ∙ ap₂ (λ (r l : List ℕ). length (printed a.sheet.n r l)) (record_is (goal.at.returns c).After-search-found) (list_is (goal.at.returns c).After-search-found); out_after = c.print.ensures.out_after ∙ ap₂ (λ (r l : List ℕ). overlay (printed a.sheet.n r l) a.out.now) (record_is (goal.at.returns c).After-search-found) (list_is (goal.at.returns c).After-search-found) }
+    let a = c.args in record { value = c.print.ensures.value ∙ ap₂ (λ (r l : List ℕ). length (printed a.sheet.n r l)) (record_is (goal.at.returns c).After-from-found) (list_is (goal.at.returns c).After-from-found); out_after = c.print.ensures.out_after ∙ ap₂ (λ (r l : List ℕ). overlay (printed a.sheet.n r l) a.out.now) (record_is (goal.at.returns c).After-from-found) (list_is (goal.at.returns c).After-from-found) }
