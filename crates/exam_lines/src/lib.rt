@@ -26,6 +26,7 @@ pub fn write_text(text: &[u8], out: &mut [u8]) -> Result<u64, Refusal>
 }
 
 // Writes the line `refused` and the number; refuses with 11 where it does not fit.
+// It takes any number: `Refusal` would ask more of callers than this public function did.
 pub fn refused_line(number: u64, out: &mut [u8]) -> Result<u64, Refusal>
     ensures { answered result out.new ≡ exit (refused_outcome number (length out.old)) out.old }
 {

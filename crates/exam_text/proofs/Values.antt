@@ -6,18 +6,15 @@ use lib.Pow.{pow_pos}
 use mathlib.Core.Path.{◌≡◌, refl, sym, ap, ◌∙◌}
 use mathlib.Core.Bool.{Bool, true, false, ◌&&◌}
 use mathlib.Core.List.{List, [], ◌∷◌, ◌++◌, append-nil}
-use lib.ListN.{length, get_or, set, take, drop, get_or-map}
-use lib.Seq.{take_all, drop-nil, take-suc-set, append_snoc, get_or-take, get_or-drop, drop-drop}
-use lib.Dec.{eqb}
+use lib.ListN.{length, get_or, set, take, drop}
+use lib.Seq.{take_all, drop-nil, take-suc-set, append_snoc, drop-drop}
 use Rattle.places.specs.Lists.{digit}
 use Rattle.bits.specs.Strings.{Bits}
 use Rattle.bits.specs.Packing.{packed_length, value, pack_in, pack}
 use Rattle.bits.proofs.Packed.{value_nil}
 use Rattle.places.proofs.Lists.{and_left, and_right}
-use Rattle.exam_text.specs.Reader.{is_hex, hex_value, are_hex, bytes_read, bits_read}
+use Rattle.exam_text.specs.Reader.{is_hex, hex_value, are_hex, bytes_read}
 use Rattle.exam_text.proofs.LineTests.{take_step}
-
--- ---- hexadecimal digits
 
 -- ---- pairs of them
 
@@ -60,12 +57,6 @@ seed_whole seed k zero l w h z e = sym (append-nil seed) ∙ ap (λ s. s ++ []) 
 seed_whole seed k (suc m) l w h z e = absurd (omega arith)
 
 -- ---- strings
-
-module _ (t : List ℕ) (at n : ℕ) (r : at + n ≤ length t) where
-  pub bit_at : (k : ℕ) → k < n → get_or (bits_read (take n (drop at t))) k false ≡ eqb (get_or t (at + k) 0) 49
-  bit_at k h =
-      get_or-map (λ c. eqb c 49) (take n (drop at t)) k 0
-      ∙ ap (λ c. eqb c 49) (get_or-take n (drop at t) k 0 h ∙ get_or-drop at t k 0)
 
 value_next : (w : ℕ) (s : Bits) (k : ℕ) → value (suc w) (drop k s) ≡ digit (get_or s k false) * 2 ^ w + value w (drop (suc k) s)
 unfolding value
