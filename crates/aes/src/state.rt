@@ -45,7 +45,13 @@ impl State {
     fn sub_bytes(mut self, s_box: &SBox) -> State
         ensures { bytes_of result ≡ sub_bytes (bytes_of self) }
     {
-        self.columns = self.columns.map(|w| w.sub_word(s_box));
+        let [a, b, c, d] = self.columns;
+        self.columns = [
+            a.sub_word(s_box),
+            b.sub_word(s_box),
+            c.sub_word(s_box),
+            d.sub_word(s_box),
+        ];
         self
     }
 
@@ -67,7 +73,13 @@ impl State {
     fn mix_columns(mut self) -> State
         ensures { bytes_of result ≡ mix_columns (bytes_of self) }
     {
-        self.columns = self.columns.map(|w| w.mix_column());
+        let [a, b, c, d] = self.columns;
+        self.columns = [
+            a.mix_column(),
+            b.mix_column(),
+            c.mix_column(),
+            d.mix_column(),
+        ];
         self
     }
 

@@ -1,6 +1,6 @@
 // A word of FIPS 197: a column of the state, or a word of the key schedule.
 ghost use Rattle.std.specs.Prelude.{◌≡◌, [], ◌∷◌, map, ◌+◌, ◌<◌};
-ghost use Rattle.gf256.specs.Field.{◌·◌};
+ghost use Rattle.gf256.specs.Field.{tabulate, ◌·◌};
 ghost use Rattle.aes.specs.Fips197.{◌‼◌, sum_word, mix_column, rot_word, sub_word, rcon};
 ghost use Rattle.aes.specs.StateLayout.{word_of};
 
@@ -9,6 +9,19 @@ use gf256::xtimes;
 
 // The first bytes of the ten round constants.
 const RCON: [u8; 10] = [0x01, 0x02, 0x04, 0x08, 0x10, 0x20, 0x40, 0x80, 0x1b, 0x36];
+
+// Twice each of 4 bytes in GF(2^8).
+// The bytes are named one by one: by `map`, here, in `sub_word` and over the columns of a state, a block takes three fifths more instructions.
+fn doubles(bytes: [u8; 4]) -> [u8; 4]
+    ensures { result ≡ tabulate 4 (λ i. 2 · (bytes ‼ i)) }
+{
+    [
+        xtimes(bytes[0]),
+        xtimes(bytes[1]),
+        xtimes(bytes[2]),
+        xtimes(bytes[3]),
+    ]
+}
 
 // Four bytes as one number, that of row 0 lowest.
 #[derive(Clone, Copy)]
@@ -63,7 +76,13 @@ impl Word {
     pub(crate) fn sub_word(self, s_box: &SBox) -> Word
         ensures { word_of result ≡ sub_word (word_of self) }
     {
-        Word::load(self.store().map(|x| s_box.sub(x)))
+        let bytes = self.store();
+        Word::load([
+            s_box.sub(bytes[0]),
+            s_box.sub(bytes[1]),
+            s_box.sub(bytes[2]),
+            s_box.sub(bytes[3]),
+        ])
     }
 
     // The word of byte 0 of the first word, byte 1 of the second, and so on.
@@ -81,7 +100,7 @@ impl Word {
     fn doubled(self) -> Word
         ensures { word_of result ≡ map (λ x. 2 · x) (word_of self) }
     {
-        Word::load(self.store().map(xtimes))
+        Word::load(doubles(self.store()))
     }
 
     // A column times the fixed matrix of MixColumns.

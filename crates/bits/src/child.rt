@@ -1,4 +1,5 @@
 // One bit more than a packed string has, written at a place. What does not fit is not written at all.
+// The place stays beside the bytes: the promises hold for every place, also one behind the end, from which no slice can be taken.
 ghost use Rattle.std.specs.Prelude.{◌≡◌, ◌+◌, ◌*◌, ◌<◌, length, take};
 ghost use Rattle.places.specs.Places.{put_at};
 ghost use Rattle.bits.specs.Strings.{◌▹◌};

@@ -45,6 +45,7 @@ pub fn spare_zero(s: &[u8], n: usize) -> bool
 }
 
 // Whether a stands before b: at the first place where they differ, a has the lesser byte.
+// It is no order of slices: by that one a string would stand before a longer one that begins with it.
 pub fn before(a: &[u8], b: &[u8]) -> bool
     ensures { result ≡ bytes_before a.now b.now }
 {

@@ -145,18 +145,6 @@ judged_second (c ∷ cs) ds bytes l = rw l.0 (judged_second cs ds bytes l.1)
 pub judged_clear : (cs : List Cause) (bytes : List ℕ) → Numbered cs → (judged cs bytes).number ≡ 0 → Clear cs
 judged_clear cs bytes l h = number_clear cs l (sym (judged_due cs bytes) ∙ h)
 
--- what a call returns and leaves, part by part
-pub exit_equal : {r : Reply} {area : List ℕ} {e : Exit} → r.number ≡ e.number → r.length ≡ e.length → area ≡ e.area → left r area ≡ e
-exit_equal h k l = rw (h, k, l)
-
--- the same from the parts of an outcome, and back
-module _ {r : Reply} {area : List ℕ} (entry : List ℕ) (o : Outcome) where
-  pub replied : (r.number ≡ o.number) × ((r.length ≡ length o.written) × (area ≡ overlay o.written entry)) → left r area ≡ exit o entry
-  replied h = exit_equal h.0 h.1.0 h.1.1
-
-  pub reply_parts : left r area ≡ exit o entry → (r.number ≡ o.number) × ((r.length ≡ length o.written) × (area ≡ overlay o.written entry))
-  reply_parts e = (ap (λ (x : Exit). x.number) e, (ap (λ (x : Exit). x.length) e, ap (λ (x : Exit). x.area) e))
-
 -- ---- what a call returns: a refusal, or how many bytes it wrote
 
 -- a refusal's number is not 0

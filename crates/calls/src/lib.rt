@@ -71,6 +71,7 @@ impl From<UnknownExpander> for Refusal {
 }
 
 // What C is told: the number of the refusal, or 0; and how many bytes were written.
+// A number and a length beside each other: C reads it so.
 #[repr(C)]
 #[derive(Clone, Copy)]
 pub struct Reply {

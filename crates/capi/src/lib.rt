@@ -170,14 +170,14 @@ pub fn tally_search(
 pub fn tally_exam(text: &[u8], out: &mut [u8]) -> Reply
     ensures { left result out.new ≡ exam_exit text.now out.old }
 {
-    exam_answering::answer(text, out)
+    Reply::from(exam_answering::answer(text, out))
 }
 
 // Writes the whole output for an exam text: the answer, or the line of the refusal; refuses with 11 where it does not fit.
 pub fn tally_respond(text: &[u8], out: &mut [u8]) -> Reply
     ensures { left result out.new ≡ respond_exit text.now out.old }
 {
-    exam_answering::respond(text, out)
+    Reply::from(exam_answering::respond(text, out))
 }
 
 // Space that is enough for the record of a search over this many honest reports; 0 where an argument is outside its bounds.

@@ -24,6 +24,7 @@ pub enum Combined {
 
 // Writes the next query, or at length n the list, for the prefixes whose total, read as a signed number where the
 // search is weighted, is at least t; refuses with 1, 2, 4, 6, 9 or 11, and with 12 in the place of 2 where it is weighted.
+// C lends these one by one.
 pub fn combine(
     n: u64,
     weighted: bool,

@@ -38,6 +38,7 @@ fn write_one(
 }
 
 impl Round<'_> {
+    // The place stays beside the space, as where one prefix is written.
     // Writes the kept prefixes of the query where `last`, and else both children of each, from place `at` of `out` on.
     pub(crate) fn write_kept(self, last: bool, out: &mut [u8], at: usize)
         requires query_in_bounds { 6 + prefix_count self.query.now * packed_length (prefix_length self.query.now) ≤ length self.query.now }

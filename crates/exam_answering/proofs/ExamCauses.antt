@@ -1,16 +1,17 @@
 -- The outcome of `answer`, cause by cause.
 use Prim.Native.Nat.{ℕ, ◌≤◌, ◌<◌}
 use native.Mathlib.Omega.{arith}
-use mathlib.Core.Path.{◌≡◌, sym}
+use mathlib.Core.Path.{◌≡◌}
 use mathlib.Core.Bool.{true, false}
 use mathlib.Core.List.{List}
 use lib.ListN.{length}
+use Rattle.std.specs.Prelude.{Err}
 use Rattle.places.proofs.Places.{overlay_nil}
 use Rattle.calls.specs.Bounds.{most_bits, most_threshold, outside}
-use Rattle.calls.specs.Outcome.{refused, left}
-use Rattle.calls.specs.declared.Reply.{Reply}
+use Rattle.calls.specs.Outcome.{refused, answered}
+use Rattle.calls.specs.Refusals.{number_of}
+use Rattle.calls.specs.declared.Refusal.{Refusal}
 use Rattle.calls.proofs.Decisions.{below_bounds, in_bounds}
-use Rattle.calls.proofs.Judged.{exit_equal}
 use Rattle.expander.specs.Expander.{is_expander}
 use Rattle.exam_text.specs.Sheet.{expander_number}
 use Rattle.exam_text.specs.Reader.{is_sheet, sheet_of, read_sheet}
@@ -46,6 +47,5 @@ module _ (text : List ℕ) (room : ℕ) where
         last_cause h = rw (read, in_bounds most_bits (sheet_of text).n from (omega arith), inside, h)
 
 -- What a refusal returns, and that it leaves the space as it was.
-pub refused_reply : (text out : List ℕ) (k : ℕ) (r : Reply) → exam_outcome text (length out) ≡ refused k → r.number ≡ k → r.length ≡ 0
-    → left r out ≡ exam_exit text out
-refused_reply text out k r is same none = rw is (exit_equal same none (sym (overlay_nil out)))
+pub refused_reply : (text out : List ℕ) (r : Refusal) → exam_outcome text (length out) ≡ refused (number_of r) → answered (Err r) out ≡ exam_exit text out
+refused_reply text out r is = rw (is, overlay_nil out)

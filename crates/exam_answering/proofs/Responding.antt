@@ -1,22 +1,26 @@
 -- The outcome of `respond` by that of `answer` in the same space.
 use Prim.Native.Nat.{ℕ}
 use native.Mathlib.Omega.{arith}
-use mathlib.Core.Path.{◌≡◌, refl, sym, ◌∙◌}
+use mathlib.Core.Path.{◌≡◌, refl, sym, ap, ◌∙◌}
 use mathlib.Core.Logic.{◌≢◌, inl, inr}
 use mathlib.Core.Bool.{Bool, true, false, not, cond, ◌||◌}
 use mathlib.Core.List.{List, [], ◌∷◌}
 use borrow.Author.Tests.{ne_eqb}
 use lib.ListN.{length}
+use Rattle.std.specs.Prelude.{Result, Ok, Err}
 use lib.Dec.{T, ltb, eqb}
-use Rattle.places.specs.Places.{overlay}
 use Rattle.calls.specs.Bounds.{most_bits, most_threshold, outside}
 use Rattle.calls.specs.Causes.{cause}
-use Rattle.calls.specs.Outcome.{Outcome, judged}
+use Rattle.calls.specs.Outcome.{Outcome, judged, Exit, exit, answered}
+use Rattle.calls.specs.Refusals.{number_of}
+use Rattle.calls.specs.declared.Refusal.{Refusal}
+use Rattle.calls.specs.declared.Refusal.TheVariants.{StringLength, Threshold, Expander, Lengths, TooManyReports, PayloadTooLarge, SpareBits, SharesDiffer, Query, Text, NoSpace, WeightedThreshold, Nodes, NoParent}
+use Rattle.calls.proofs.Judged.{numbered}
 use Rattle.expander.specs.Expander.{is_expander}
 use Rattle.exam_text.specs.Sheet.{Sheet, expander_number, Within}
 use Rattle.exam_answering.specs.AnswerText.{answer_text}
 use Rattle.exam_lines.specs.Lines.{written_in, output_for, refused_outcome}
-use Rattle.exam_answering.specs.Exam.{exam_outcome, answer_space, output, respond_outcome}
+use Rattle.exam_answering.specs.Exam.{exam_outcome, exam_exit, answer_space, output, respond_outcome, respond_exit}
 use Rattle.exam_text.proofs.ReaderExact.{SheetOrNone, sheet_or_none}
 use Rattle.exam_answering.proofs.Exam.{sheet_outcome, none_outcome}
 use Rattle.exam_answering.proofs.ExamTheorems.{exam_refused, answer_fits}
@@ -61,21 +65,39 @@ module _ (bytes : List ℕ) (room : ℕ) where
 
 -- ---- what a call returns and leaves
 
--- A reply and the space that is left are those of an outcome.
-abbrev pub Replied : Outcome → List ℕ → ℕ → ℕ → List ℕ → Type 0
-Replied o out number size after = (number ≡ o.number) × ((size ≡ length o.written) × (after ≡ overlay o.written out))
+-- 11 is the number of one refusal alone
+pub not_space : (e : Refusal) → e ≢ NoSpace → number_of e ≢ 11
+not_space StringLength h = λ k. omega (arith, k)
+not_space Threshold h = λ k. omega (arith, k)
+not_space Expander h = λ k. omega (arith, k)
+not_space Lengths h = λ k. omega (arith, k)
+not_space TooManyReports h = λ k. omega (arith, k)
+not_space PayloadTooLarge h = λ k. omega (arith, k)
+not_space SpareBits h = λ k. omega (arith, k)
+not_space SharesDiffer h = λ k. omega (arith, k)
+not_space Query h = λ k. omega (arith, k)
+not_space Text h = λ k. omega (arith, k)
+not_space NoSpace h = absurd (h refl)
+not_space WeightedThreshold h = λ k. omega (arith, k)
+not_space Nodes h = λ k. omega (arith, k)
+not_space NoParent h = λ k. omega (arith, k)
 
-module _ (bytes out : List ℕ) (number size : ℕ) (after : List ℕ) (replied : Replied (exam_outcome bytes (length out)) out number size after) where
-  pub answer_replied : number ≡ 0 → Replied (respond_outcome bytes (length out)) out number size after
-  answer_replied h = rw (respond_answer bytes (length out) (sym replied.0 ∙ h)) replied
+-- what `answer` wrote is the output
+pub answer_replied : (bytes out after : List ℕ) (size : ℕ) → answered (Ok size) after ≡ exam_exit bytes out → answered (Ok size) after ≡ respond_exit bytes out
+answer_replied bytes out after size is =
+    is ∙ ap (λ (o : Outcome). exit o out) (sym (respond_answer bytes (length out) (sym (ap (λ (x : Exit). x.number) is))))
 
-  pub space_replied : number ≡ 11 → Replied (respond_outcome bytes (length out)) out number size after
-  space_replied h = rw (respond_space bytes (length out) (sym replied.0 ∙ h)) replied
+module _ (bytes out after : List ℕ) (e : Refusal) (is : answered (Err e) after ≡ exam_exit bytes out) where
+  number_is : (exam_outcome bytes (length out)).number ≡ number_of e
+  number_is = sym (ap (λ (x : Exit). x.number) is)
+
+  pub space_replied : number_of e ≡ 11 → answered (Err e) after ≡ respond_exit bytes out
+  space_replied h = is ∙ ap (λ (o : Outcome). exit o out) (sym (respond_space bytes (length out) (number_is ∙ h)))
 
   -- a refusal with another number left the space as it was, and its line follows
-  pub line_replied : number ≢ 0 → number ≢ 11 → (number₂ size₂ : ℕ) (last : List ℕ) → Replied (refused_outcome number (length after)) after number₂ size₂ last
-      → Replied (respond_outcome bytes (length out)) out number₂ size₂ last
-  line_replied h g number₂ size₂ last line =
-      let same : after ≡ out = replied.1.1 ∙ (exam_refused bytes out (λ e. h (replied.0 ∙ e))).1 in
-      let is = respond_line bytes (length out) (λ e. h (replied.0 ∙ e)) (λ e. g (replied.0 ∙ e)) in
-      rw (is, ← replied.0) (rw same at line)
+  pub line_replied : number_of e ≢ 11 → (r : Result ℕ Refusal) (last : List ℕ) → answered r last ≡ exit (refused_outcome (number_of e) (length after)) after
+      → answered r last ≡ respond_exit bytes out
+  line_replied h r last line =
+      let other : (exam_outcome bytes (length out)).number ≢ 0 = λ z. numbered e (sym number_is ∙ z) in
+      let same : after ≡ out = ap (λ (x : Exit). x.area) is ∙ (exam_refused bytes out other).1 in
+      rw (respond_line bytes (length out) other (λ z. h (sym number_is ∙ z)), number_is) (rw same at line)

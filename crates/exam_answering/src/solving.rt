@@ -1,7 +1,7 @@
 // The search of a sheet, and its answer.
 ghost use Rattle.std.specs.Prelude.{◌≡◌, true, false, ◌≤◌, length, drop};
 ghost use Rattle.places.specs.Places.{overlay};
-ghost use Rattle.calls.specs.Outcome.{exit, left};
+ghost use Rattle.calls.specs.Outcome.{exit, answered};
 ghost use Rattle.exam_lines.specs.Lines.{written_in};
 ghost use Rattle.expander.specs.Expander.{is_expander};
 ghost use Rattle.tree.specs.SearchRule.{heading_length};
@@ -15,7 +15,7 @@ ghost use Rattle.exam_answering.specs.Printing.{printed, round_length};
 ghost use Rattle.exam_answering.specs.SheetSearch.{searched_text, search_text};
 
 use crate::printing::print;
-use calls::Reply;
+use calls::Refusal;
 use exam_lines::write_text;
 use exam_reading::SheetHead;
 use exam_reports::make_reports;
@@ -91,12 +91,12 @@ fn print_answer(
 }
 
 // Answers a sheet to which no cause before 11 applies, in space of its own: what is written is printed of the search of the sheet's own reports.
-pub(crate) fn solve(text: &[u8], sheet: SheetHead, out: &mut [u8]) -> Reply
+pub(crate) fn solve(text: &[u8], sheet: SheetHead, out: &mut [u8]) -> Result<u64, Refusal>
     requires text_value { (is_sheet text.now ≡ true) × (1 ≤ sheet.n) × (sheet.n ≤ 32) × (1 ≤ sheet.t) × (sheet.t ≤ 65535) ×
         (is_expander sheet.expander ≡ true) × (sheet.count ≤ 32) }
     requires n_value { (sheet.n ≡ (sheet_of text.now).n) × (sheet.t ≡ (sheet_of text.now).t) ×
         (sheet.expander ≡ expander_number (sheet_of text.now).expander) × (sheet.count ≡ length (sheet_of text.now).lines) }
-    ensures { left result out.new ≡ exit (written_in (search_text (sheet_of text.now)) (length out.old)) out.old }
+    ensures { answered result out.new ≡ exit (written_in (search_text (sheet_of text.now)) (length out.old)) out.old }
 {
     let mut seeds0 = [0u8; 512];
     let mut seeds1 = [0u8; 512];

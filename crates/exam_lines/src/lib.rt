@@ -3,50 +3,39 @@
 
 ghost use Rattle.std.specs.Prelude.{◌≡◌, length};
 ghost use Rattle.places.specs.Places.{put_at};
-ghost use Rattle.calls.specs.Outcome.{exit, left};
+ghost use Rattle.calls.specs.Outcome.{exit, answered};
 ghost use Rattle.fields.specs.Field.{packed_line, place_behind};
 ghost use Rattle.exam_lines.specs.Lines.{prefix_line, heavy_line, written_in, refused_outcome};
 
 use crate::answer_lines::{put_heavy_line, put_prefix_line, write_refused};
-use calls::Reply;
+use calls::Refusal;
 use fields::{decimal_length, has_room};
 use places::copy;
 
 mod answer_lines;
 
 // Writes a text into the beginning of `out`; refuses with 11 where it does not fit.
-pub fn write_text(text: &[u8], out: &mut [u8]) -> Reply
-    ensures { left result out.new ≡ exit (written_in text.now (length out.old)) out.old }
+pub fn write_text(text: &[u8], out: &mut [u8]) -> Result<u64, Refusal>
+    ensures { answered result out.new ≡ exit (written_in text.now (length out.old)) out.old }
 {
     if out.len() < text.len() {
-        return Reply {
-            number: 11,
-            length: 0,
-        };
+        return Err(Refusal::NoSpace);
     }
     copy(text, out, 0);
-    Reply {
-        number: 0,
-        length: text.len() as u64,
-    }
+    Ok(text.len() as u64)
 }
 
 // Writes the line `refused` and the number; refuses with 11 where it does not fit.
-pub fn refused_line(number: u64, out: &mut [u8]) -> Reply
-    ensures { left result out.new ≡ exit (refused_outcome number (length out.old)) out.old }
+// It takes any number: `Refusal` would ask more of callers than this public function did.
+pub fn refused_line(number: u64, out: &mut [u8]) -> Result<u64, Refusal>
+    ensures { answered result out.new ≡ exit (refused_outcome number (length out.old)) out.old }
 {
     let size = decimal_length(number) + 9;
     if out.len() < size {
-        return Reply {
-            number: 11,
-            length: 0,
-        };
+        return Err(Refusal::NoSpace);
     }
     write_refused(number, out);
-    Reply {
-        number: 0,
-        length: size as u64,
-    }
+    Ok(size as u64)
 }
 
 // Writes the line of a prefix of k bits and its total at a place, where it has room, and gives back the place behind it.

@@ -83,6 +83,7 @@ fn read_parts(line: &[u8], n: usize) -> LineRead
 }
 
 // The line for strings of n bits, at most 32, that stands at a place of a text; all 0 where none does.
+// It answers no Option: a public function that could not fail still can't.
 pub fn read_line(text: &[u8], at: usize, n: u16) -> LineRead
     ensures string { result.string ≡ pack_in 4 (line_at n at text.now).string }
     ensures seeds { (result.seed0 ≡ (line_at n at text.now).seed0) × (result.seed1 ≡ (line_at n at text.now).seed1) }

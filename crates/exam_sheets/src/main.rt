@@ -8,9 +8,13 @@ use streams::{Cut, read_text};
 // Writes the number for an exam text, and the answer behind it.
 fn show<W: Write>(text: &[u8], printed: &mut W) -> io::Result<()> {
     let mut out = [0u8; 65536];
-    let reply = exam_answering::answer(text, &mut out);
-    writeln!(printed, "{}", reply.number)?;
-    printed.write_all(&out[..reply.length as usize])
+    match exam_answering::answer(text, &mut out) {
+        Ok(length) => {
+            writeln!(printed, "0")?;
+            printed.write_all(&out[..length as usize])
+        }
+        Err(refusal) => writeln!(printed, "{}", refusal.number()),
+    }
 }
 
 // Answers the text in a file, up to its end or a read that fails, or says that the file cannot be opened.

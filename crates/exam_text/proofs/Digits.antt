@@ -1,6 +1,6 @@
 -- The digits with which a text begins, and the number that digits are.
 use Prim.Native.Nat.{ℕ, zero, suc, ◌+◌, ◌-◌, ◌*◌, ◌^◌, ◌≤◌, ◌<◌}
-use native.Mathlib.Nat.{pow-succ', pow-le-pow_right}
+use native.Mathlib.Nat.{pow-succ'}
 use native.Mathlib.Omega.{arith}
 use mathlib.Core.Path.{◌≡◌, refl, ap}
 use mathlib.Core.Bool.{Bool, true, false}
@@ -59,6 +59,3 @@ number_none x (d ∷ ds) e = absurd (omega arith)
 
 pub digits_more : (x v k : ℕ) → x < 10 ^ k → v ≤ 9 → 10 * x + v < 10 ^ suc k
 digits_more x v k a b = omega (arith, pow-succ' 10 k)
-
-pub five_digits : (k : ℕ) → k ≤ 5 → 10 ^ k ≤ 100000
-five_digits k h = pow-le-pow_right {n = 10} (omega arith) h

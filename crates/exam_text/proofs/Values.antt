@@ -5,35 +5,16 @@ use native.Mathlib.Omega.{arith}
 use lib.Pow.{pow_pos}
 use mathlib.Core.Path.{◌≡◌, refl, sym, ap, ◌∙◌}
 use mathlib.Core.Bool.{Bool, true, false, ◌&&◌}
-use mathlib.Core.Logic.{⊎_elim}
 use mathlib.Core.List.{List, [], ◌∷◌, ◌++◌, append-nil}
-use borrow.Author.Tests.{leb-true}
-use lib.ListN.{length, get_or, set, take, drop, length-drop, length-map, get_or-eq_default, get_or-map}
-use lib.Seq.{take_all, drop-nil, take-suc-set, append_snoc, get_or-take, get_or-drop, length-take-le, drop-drop}
-use lib.Dec.{leb, eqb}
+use lib.ListN.{length, get_or, set, take, drop}
+use lib.Seq.{take_all, drop-nil, take-suc-set, append_snoc, drop-drop}
 use Rattle.places.specs.Lists.{digit}
 use Rattle.bits.specs.Strings.{Bits}
 use Rattle.bits.specs.Packing.{packed_length, value, pack_in, pack}
 use Rattle.bits.proofs.Packed.{value_nil}
 use Rattle.places.proofs.Lists.{and_left, and_right}
-use Rattle.exam_text.specs.Reader.{is_decimal, is_hex, hex_value, are_hex, bytes_read, bits_read}
-use Rattle.exam_text.proofs.Decimals.{decimal_low, decimal_high}
-use Rattle.exam_text.proofs.LineFields.{or_cases}
+use Rattle.exam_text.specs.Reader.{is_hex, hex_value, are_hex, bytes_read}
 use Rattle.exam_text.proofs.LineTests.{take_step}
-
--- ---- hexadecimal digits
-
--- a digit up to `9` is decimal, and one past it a letter
-module _ (c : ℕ) (e : is_hex c ≡ true) where
-  pub hex_decimal : c ≤ 57 → 48 ≤ c
-  hex_decimal h =
-      ⊎_elim (λ a. decimal_low c a) (λ a. absurd (omega (arith, leb-true 97 c (and_left (leb 97 c) (leb c 102) a))))
-      (or_cases (is_decimal c) (leb 97 c && leb c 102) e)
-
-  pub hex_letter : 57 < c → 97 ≤ c
-  hex_letter h =
-      ⊎_elim (λ a. absurd (omega (arith, decimal_high c a))) (λ a. leb-true 97 c (and_left (leb 97 c) (leb c 102) a))
-      (or_cases (is_decimal c) (leb 97 c && leb c 102) e)
 
 -- ---- pairs of them
 
@@ -76,21 +57,6 @@ seed_whole seed k zero l w h z e = sym (append-nil seed) ∙ ap (λ s. s ++ []) 
 seed_whole seed k (suc m) l w h z e = absurd (omega arith)
 
 -- ---- strings
-
-module _ (t : List ℕ) (at n : ℕ) (r : at + n ≤ length t) where
-  part_length : length (take n (drop at t)) ≡ n
-  part_length = length-take-le n (drop at t) (omega (arith, length-drop at t))
-
-  pub bits_length : length (bits_read (take n (drop at t))) ≡ n
-  bits_length = length-map (take n (drop at t)) (λ c. eqb c 49) ∙ part_length
-
-  pub bit_past : (k : ℕ) → n ≤ k → get_or (bits_read (take n (drop at t))) k false ≡ false
-  bit_past k h = get_or-eq_default (bits_read (take n (drop at t))) false (omega (arith, bits_length))
-
-  pub bit_at : (k : ℕ) → k < n → get_or (bits_read (take n (drop at t))) k false ≡ eqb (get_or t (at + k) 0) 49
-  bit_at k h =
-      get_or-map (λ c. eqb c 49) (take n (drop at t)) k 0
-      ∙ ap (λ c. eqb c 49) (get_or-take n (drop at t) k 0 h ∙ get_or-drop at t k 0)
 
 value_next : (w : ℕ) (s : Bits) (k : ℕ) → value (suc w) (drop k s) ≡ digit (get_or s k false) * 2 ^ w + value w (drop (suc k) s)
 unfolding value

@@ -3,16 +3,9 @@ use Prim.Native.Nat.{ℕ, ◌+◌, ◌/◌, ◌%◌, ◌≤◌, ◌<◌}
 use native.Mathlib.Numerals.{add-one}
 use mathlib.Core.Path.{◌≡◌, ap, ◌∙◌}
 use mathlib.Core.List.{List, [], ◌∷◌}
-use borrow.Author.Tests.{lt-ltb, le-ltb}
 use lib.ListN.{length, get_or, drop, drop_of_length-le}
 use lib.Seq.{drop-cons}
 use Rattle.exam_text.specs.Characters.{glyph, hexadecimal}
-
-pub glyph_digit : (x : ℕ) → x < 10 → 48 + x ≡ glyph x
-glyph_digit x h = rw (lt-ltb x 10 h)
-
-pub glyph_letter : (x : ℕ) → 10 ≤ x → 87 + x ≡ glyph x
-glyph_letter x h = rw (le-ltb x 10 h)
 
 module _ (bytes : List ℕ) (i : ℕ) where
   pub hex_none : length bytes ≤ i → hexadecimal (drop i bytes) ≡ []

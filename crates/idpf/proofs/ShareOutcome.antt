@@ -3,7 +3,7 @@ use Prim.Native.Nat.{ℕ, ◌*◌, ◌/◌, ◌%◌, ◌≤◌, ◌<◌}
 use native.Mathlib.Omega.{arith}
 use native.Mathlib.Nat.{min-eq_left, mul_comm, div-add-mod'}
 use mathlib.Core.Path.{◌≡◌, ap, ◌∙◌}
-use mathlib.Core.Bool.{Bool, true, false, not}
+use mathlib.Core.Bool.{Bool, true, not}
 use mathlib.Core.List.{List, []}
 use borrow.Author.Tests.{eqb-true, ltb-false, not-false}
 use lib.ListN.{length, drop, length-map}
@@ -17,8 +17,7 @@ use Rattle.calls.proofs.Decisions.{neither, bounds}
 use Rattle.calls.proofs.Judged.{Clear, judged_number, judged_refused, judged_accepted, judged_clear}
 use Rattle.expander.specs.Expander.{is_expander, choice_of}
 use Rattle.expander.specs.declared.Expander.{Expander}
-use Rattle.std.specs.Prelude.{Some, None}
-use Rattle.expander.proofs.Chosen.{unknown}
+use Rattle.std.specs.Prelude.{Some}
 use Rattle.group.specs.Modular.{p}
 use Rattle.point.specs.Evaluation.{bit_of}
 use Rattle.point.specs.PublicShare.{public_share_length, payloads_below, spare_bits_zero}
@@ -102,14 +101,6 @@ module _ (n e : ℕ) (b : Bool) (seeds shares query : List ℕ) (room : ℕ) whe
   unfolding share_outcome
   outcome_accepted x c h =
       judged_accepted (causes n e seeds shares query room) _ (clear n e seeds shares query room h) ∙ rw c
-
--- an expander that is none is refused
-pub never_unknown : (n e : ℕ) (seeds shares query : List ℕ) (room : ℕ) → choice_of e ≡ None → (judged (causes n e seeds shares query room) []).number ≡ 0 → ⊥
-never_unknown n e seeds shares query room c h =
-    let k : is_expander e ≡ true = (ready n e seeds shares query room h).known in
-    let u : is_expander e ≡ false = unknown e c in
-    let z : ◌≡◌ {A = ℕ} 0 1 = cc in
-    omega arith
 
 pub prefixes_length : (query : List ℕ) → length (prefixes_of query) ≡ prefix_count query
 prefixes_length query =

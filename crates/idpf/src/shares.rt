@@ -99,6 +99,7 @@ fn write_sums(lent: Server<'_>, query: &[u8], out: &mut [u8])
 }
 
 // Writes a server's share for a query: for each prefix in order the sum over all lent reports; refuses with 1, 3, 4, 5, 6, 7, 9 or 11.
+// C lends these one by one.
 pub fn share(
     n: u64,
     expander: u64,

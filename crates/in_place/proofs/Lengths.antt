@@ -1,6 +1,5 @@
 -- What every task's turns keep: how many are left, and how many nodes and bytes there are.
-use Prim.Native.Nat.{ℕ, zero, suc, ◌-◌, ◌*◌}
-use native.Mathlib.Omega.{arith}
+use Prim.Native.Nat.{ℕ, zero, suc, ◌*◌}
 use mathlib.Core.Path.{◌≡◌, refl, ◌∙◌}
 use mathlib.Core.Bool.{Bool, true, false, cond}
 use mathlib.Core.List.{List}
@@ -9,7 +8,7 @@ use lib.Dec.{eqb}
 use Rattle.nodes.specs.declared.Node.{Node}
 use Rattle.turns.specs.declared.Task.{Task}
 use Rattle.turns.specs.declared.Place.{Place}
-use Rattle.turns.specs.Turns.{nowhere, place_for, first_place, next_place, place_at, nodes_at}
+use Rattle.turns.specs.Turns.{nowhere, place_for, first_place, nodes_at}
 
 -- either way the turns left are the same
 either_left : (left : ℕ) (x : Place) → x.left ≡ left → (a b : Bool) → (cond a (nowhere left) (cond b (nowhere left) x)).left ≡ left
@@ -26,16 +25,7 @@ pub first_left : (t : Task) (last query : List ℕ) → (first_place t last quer
 unfolding first_place
 first_left t last query = placed_left t last query (2 * (t.reports * t.after)) 0
 
-pub next_left : (t : Task) (last query : List ℕ) (at : Place) → (next_place t last query at).left ≡ at.left - 1
-unfolding next_place
-next_left t last query at = placed_left t last query (at.left - 1) at.parent
-
 module _ (t : Task) (shares last query : List ℕ) (p : Place) where
-  pub place_left : (s : ℕ) → (place_at t shares last query p s).left ≡ p.left - s
-  unfolding place_at
-  place_left zero = omega arith
-  place_left (suc s) = next_left t last query (place_at t shares last query p s) ∙ omega (arith, place_left s)
-
   pub nodes_length : (l : List Node) (s : ℕ) → length (nodes_at t shares last query p l s) ≡ length l
   unfolding nodes_at
   nodes_length l zero = refl

@@ -35,6 +35,7 @@ fn advance(
 }
 
 // Writes a server's share for a query from the nodes kept at the last one, and leaves those at the new one; refuses with 1, 3, 4, 5, 6, 7, 9, 13, 14 or 11.
+// C lends these one by one.
 pub fn share_kept(
     n: u64,
     expander: u64,

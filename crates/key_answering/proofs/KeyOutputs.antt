@@ -8,6 +8,7 @@ use mathlib.Core.List.{List, [], ◌∷◌, ◌++◌}
 use mathlib.Core.Logic.{◌≢◌, ◌⊎◌, inl, inr}
 use mathlib.Core.Option.{some}
 use borrow.Author.Tests.{le-ltb, ne_eqb}
+use Rattle.std.specs.Prelude.{Option, Some, None}
 use lib.ListN.{length, take, length-append}
 use lib.Seq.{take_all, length-take-le}
 use Rattle.calls.specs.Bounds.{most_bits, Outside, outside, length_cause, expander_cause}
@@ -17,8 +18,6 @@ use Rattle.calls.proofs.Decisions.{beyond, beyond_test}
 use Rattle.calls.proofs.Judged as judging
 use Rattle.expander.specs.Expander.{is_expander, choice_of}
 use Rattle.expander.specs.declared.Expander.{Expander}
-use Rattle.expander.specs.declared.Choice.{Choice}
-use Rattle.expander.specs.declared.Choice.TheVariants.{Known, Unknown}
 use Rattle.expander.proofs.Chosen.{unnamed, unnamed_test}
 use Rattle.exam_text.specs.Characters.{space, newline, decimal}
 use Rattle.exam_text.specs.Sheet.{line_text}
@@ -90,16 +89,16 @@ key_output_refused bytes k d h =
 abbrev pub KeyOutputIs : List ℕ → Type 0
 KeyOutputIs bytes =
     (key_output bytes ≡ refused_text 10) ⊎ (key_output bytes ≡ refused_text 1) ⊎ (key_output bytes ≡ refused_text 3)
-    ⊎ ((k : KeyLine) × KeyWithin k × (bytes ≡ key_line_text k) × (1 ≤ k.n) × (x : Expander) × (choice_of k.expander ≡ Known x) × (key_output bytes ≡ line_page k.n k.line x))
+    ⊎ ((k : KeyLine) × KeyWithin k × (bytes ≡ key_line_text k) × (1 ≤ k.n) × (x : Expander) × (choice_of k.expander ≡ Some x) × (key_output bytes ≡ line_page k.n k.line x))
 
 pub key_output_is : (bytes : List ℕ) → KeyOutputIs bytes
 key_output_is bytes = go (is_key_line bytes) refl
   where
-    chosen : (e : is_key_line bytes ≡ true) → 1 ≤ (key_line_of bytes).n → (c : Choice) → choice_of (key_line_of bytes).expander ≡ c → KeyOutputIs bytes
-    chosen e from (Known x) k =
+    chosen : (e : is_key_line bytes ≡ true) → 1 ≤ (key_line_of bytes).n → (c : Option Expander) → choice_of (key_line_of bytes).expander ≡ c → KeyOutputIs bytes
+    chosen e from (Some x) k =
         let r = key_line_within bytes e in
         inr (inr (inr (key_line_of bytes, r.0, r.1, from, x, k, known_output bytes e from r.0.n_most x k)))
-    chosen e from Unknown u = inr (inr (inl (unknown_output bytes e from (key_line_within bytes e).0.n_most u)))
+    chosen e from None u = inr (inr (inl (unknown_output bytes e from (key_line_within bytes e).0.n_most u)))
 
     go : (b : Bool) → is_key_line bytes ≡ b → KeyOutputIs bytes
     go false e = inl (none_output bytes e)
@@ -110,7 +109,7 @@ key_output_is bytes = go (is_key_line bytes) refl
         ]
 
 -- The output for the text of a key line of 1 to 32 bits with expander 1 or 2 is its page.
-pub key_output_page : (k : KeyLine) → KeyWithin k → 1 ≤ k.n → (x : Expander) → choice_of k.expander ≡ Known x → key_output (key_line_text k) ≡ line_page k.n k.line x
+pub key_output_page : (k : KeyLine) → KeyWithin k → 1 ≤ k.n → (x : Expander) → choice_of k.expander ≡ Some x → key_output (key_line_text k) ≡ line_page k.n k.line x
 key_output_page k w from x named =
     let r = key_line_text_lem k w in
     let same : key_line_of (key_line_text k) ≡ k = r.1 in

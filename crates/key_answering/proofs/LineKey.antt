@@ -3,6 +3,7 @@ use Prim.Native.Nat.{ℕ, ◌≤◌}
 use native.Mathlib.Omega.{arith}
 use mathlib.Core.Path.{◌≡◌, sym, ap, ◌∙◌}
 use mathlib.Core.List.{List}
+use Rattle.std.specs.Prelude.{Some}
 use lib.ListN.{length, take, drop}
 use lib.Seq.{take_at}
 use lib.IntN.{pos}
@@ -12,7 +13,6 @@ use Rattle.bits.proofs.Packed.{pack_length, unpack_pack}
 use Rattle.calls.specs.Outcome.{Outcome}
 use Rattle.expander.specs.Expander.{choice_of}
 use Rattle.expander.specs.declared.Expander.{Expander}
-use Rattle.expander.specs.declared.Choice.TheVariants.{Known}
 use Rattle.point.specs.PublicShare.{public_share_length}
 use Rattle.keymaker.specs.Key.{key_bytes, key_exit}
 use Rattle.keymaker.proofs.KeyMade.{key_made, made_length}
@@ -23,7 +23,7 @@ use Rattle.key_answering.specs.KeyPage.{page, page_space}
 use Rattle.key_answering.specs.KeyAnswer.{line_page}
 use Rattle.key_answering.proofs.Lengths.{page_most}
 
-module _ (n number : ℕ) (e : Expander) (from : 1 ≤ n) (to : n ≤ 32) (named : choice_of number ≡ Known e) (l : Line) (sound : Sound n l) where
+module _ (n number : ℕ) (e : Expander) (from : 1 ≤ n) (to : n ≤ 32) (named : choice_of number ≡ Some e) (l : Line) (sound : Sound n l) where
   -- The string that was read, packed.
   module _ (w : ℕ) (string : List ℕ) (size : w ≡ packed_length n) (bits : string ≡ pack_in 4 l.string) where
     pub packed_read : take w string ≡ pack l.string

@@ -3,14 +3,13 @@ use Prim.Native.Nat.{ℕ, ◌≤◌, ◌<◌}
 use native.Mathlib.Omega.{arith}
 use mathlib.Core.Path.{◌≡◌, ap}
 use mathlib.Core.Bool.{true, false}
+use Rattle.std.specs.Prelude.{Option, Some, None}
 use mathlib.Core.List.{List}
 use borrow.Author.Tests.{lt-ltb}
 use Rattle.calls.specs.Bounds.{most_bits, outside}
 use Rattle.calls.proofs.Decisions.{in_bounds}
 use Rattle.expander.specs.Expander.{choice_of, under}
 use Rattle.expander.specs.declared.Expander.{Expander}
-use Rattle.expander.specs.declared.Choice.{Choice}
-use Rattle.expander.specs.declared.Choice.TheVariants.{Known, Unknown}
 use Rattle.expander.proofs.Chosen.{known, unknown}
 use Rattle.exam_text.specs.KeyLine.{is_key_line, key_line_of, read_key_line}
 use Rattle.exam_lines.specs.Lines.{written_in, refused_text, refused_outcome}
@@ -30,14 +29,14 @@ module _ (bytes : List ℕ) where
       in_range : outside most_bits (key_line_of bytes).n ≡ false
       in_range = in_bounds most_bits (key_line_of bytes).n from (omega arith)
 
-      pub unknown_output : choice_of (key_line_of bytes).expander ≡ Unknown → key_output bytes ≡ refused_text 3
+      pub unknown_output : choice_of (key_line_of bytes).expander ≡ None → key_output bytes ≡ refused_text 3
       unfolding key_output key_line_outcome read_key_line
       unknown_output u = rw (e, in_range, unknown (key_line_of bytes).expander u)
 
-      pub known_output : (x : Expander) → choice_of (key_line_of bytes).expander ≡ Known x → key_output bytes ≡ line_page (key_line_of bytes).n (key_line_of bytes).line x
+      pub known_output : (x : Expander) → choice_of (key_line_of bytes).expander ≡ Some x → key_output bytes ≡ line_page (key_line_of bytes).n (key_line_of bytes).line x
       unfolding key_output key_line_outcome read_key_line
       known_output x k =
-          rw (e, in_range, known (key_line_of bytes).expander x k) (ap (λ (c : Choice). under c (line_page (key_line_of bytes).n (key_line_of bytes).line)) k)
+          rw (e, in_range, known (key_line_of bytes).expander x k) (ap (λ (c : Option Expander). under c (line_page (key_line_of bytes).n (key_line_of bytes).line)) k)
 
   -- The same in a space of this length.
   module _ (room : ℕ) where
@@ -49,12 +48,12 @@ module _ (bytes : List ℕ) where
     unfolding refused_outcome respond_outcome
     no_bits_responds e h = rw (no_bits_output e h)
 
-    pub unknown_responds : is_key_line bytes ≡ true → 1 ≤ (key_line_of bytes).n → (key_line_of bytes).n ≤ 32 → choice_of (key_line_of bytes).expander ≡ Unknown
+    pub unknown_responds : is_key_line bytes ≡ true → 1 ≤ (key_line_of bytes).n → (key_line_of bytes).n ≤ 32 → choice_of (key_line_of bytes).expander ≡ None
         → refused_outcome 3 room ≡ respond_outcome bytes room
     unfolding refused_outcome respond_outcome
     unknown_responds e from to u = rw (unknown_output e from to u)
 
-    pub page_responds : is_key_line bytes ≡ true → 1 ≤ (key_line_of bytes).n → (key_line_of bytes).n ≤ 32 → (x : Expander) → choice_of (key_line_of bytes).expander ≡ Known x
+    pub page_responds : is_key_line bytes ≡ true → 1 ≤ (key_line_of bytes).n → (key_line_of bytes).n ≤ 32 → (x : Expander) → choice_of (key_line_of bytes).expander ≡ Some x
         → written_in (line_page (key_line_of bytes).n (key_line_of bytes).line x) room ≡ respond_outcome bytes room
     unfolding respond_outcome
     page_responds e from to x k = rw (known_output e from to x k)

@@ -1,12 +1,11 @@
 // What the program `key` prints for its line.
 #![tactic(auto)]
 
-ghost use Rattle.std.specs.Prelude.{◌≡◌, true, ◌≤◌, length};
+ghost use Rattle.std.specs.Prelude.{◌≡◌, true, ◌≤◌, length, Some};
 ghost use Rattle.places.specs.Places.{overlay};
 ghost use Rattle.bits.specs.Packing.{pack};
-ghost use Rattle.calls.specs.Outcome.{exit, left};
+ghost use Rattle.calls.specs.Outcome.{exit, answered};
 ghost use Rattle.expander.specs.Expander.{choice_of};
-ghost use Rattle.expander.specs.declared.Choice.TheVariants.{Known};
 ghost use Rattle.exam_text.specs.Reader.{has_line, line_at};
 ghost use Rattle.exam_lines.specs.Lines.{written_in};
 ghost use Rattle.key_answering.specs.KeyPage.{page, page_space};
@@ -14,10 +13,10 @@ ghost use Rattle.key_answering.specs.KeyAnswer.{line_page, respond_outcome};
 
 use crate::page::Key;
 use bits::packed_length;
-use calls::Reply;
+use calls::Refusal;
 use exam_lines::{refused_line, write_text};
 use exam_reading::{KeyHead, read_key_line, read_line};
-use expander::{Choice, Expander};
+use expander::Expander;
 use nodes::public_share_length;
 
 mod lines;
@@ -25,7 +24,7 @@ mod page;
 
 // Makes the public share of the line of a key, with the weight 1, under its expander, and writes its page into the beginning of `out`.
 fn print_line(text: &[u8], head: KeyHead, e: Expander, share: &mut [u8], out: &mut [u8]) -> usize
-    requires le_n { (1 ≤ head.n) × (head.n ≤ 32) × (choice_of head.expander ≡ Known e) × (has_line head.n head.place text.now ≡ true) }
+    requires le_n { (1 ≤ head.n) × (head.n ≤ 32) × (choice_of head.expander ≡ Some e) × (has_line head.n head.place text.now ≡ true) }
     requires share_len { (length share.old ≡ 776) × (page_space ≤ length out.old) }
     ensures value { (result ≡ length (line_page head.n (line_at head.n head.place text.now) e)) × (result ≤ page_space) }
     ensures out_after { out.new ≡ overlay (line_page head.n (line_at head.n head.place text.now) e) out.old }
@@ -34,7 +33,8 @@ fn print_line(text: &[u8], head: KeyHead, e: Expander, share: &mut [u8], out: &m
     let line = read_line(text, head.place, n);
     let end = packed_length(n as usize);
     let packed = &line.string[..end];
-    keymaker::make_key(
+    // A line that stands there is within the bounds of the call, so it is not refused.
+    let _ = keymaker::make_key(
         n as u64,
         head.expander,
         1,
@@ -56,9 +56,9 @@ fn print_line(text: &[u8], head: KeyHead, e: Expander, share: &mut [u8], out: &m
 }
 
 // Writes the page of the line of a key; refuses with 11 where it does not fit.
-fn print(text: &[u8], head: KeyHead, e: Expander, out: &mut [u8]) -> Reply
-    requires { (1 ≤ head.n) × (head.n ≤ 32) × (choice_of head.expander ≡ Known e) × (has_line head.n head.place text.now ≡ true) }
-    ensures { left result out.new ≡ exit (written_in (line_page head.n (line_at head.n head.place text.now) e) (length out.old)) out.old }
+fn print(text: &[u8], head: KeyHead, e: Expander, out: &mut [u8]) -> Result<u64, Refusal>
+    requires { (1 ≤ head.n) × (head.n ≤ 32) × (choice_of head.expander ≡ Some e) × (has_line head.n head.place text.now ≡ true) }
+    ensures { answered result out.new ≡ exit (written_in (line_page head.n (line_at head.n head.place text.now) e) (length out.old)) out.old }
 {
     let mut share = [0u8; 776];
     let mut printed = [0u8; 10425];
@@ -67,17 +67,17 @@ fn print(text: &[u8], head: KeyHead, e: Expander, out: &mut [u8]) -> Reply
 }
 
 // Writes the whole output for a text: the page of its line, or the line of the refusal; refuses with 11 where it does not fit.
-pub fn respond(text: &[u8], out: &mut [u8]) -> Reply
-    ensures { left result out.new ≡ exit (respond_outcome text.now (length out.old)) out.old }
+pub fn respond(text: &[u8], out: &mut [u8]) -> Result<u64, Refusal>
+    ensures { answered result out.new ≡ exit (respond_outcome text.now (length out.old)) out.old }
 {
     let Some(head) = read_key_line(text) else {
-        return refused_line(10, out);
+        return refused_line(Refusal::Text.number(), out);
     };
     if head.n < 1 {
-        return refused_line(1, out);
+        return refused_line(Refusal::StringLength.number(), out);
     }
-    match expander::choose(head.expander) {
-        Choice::Known(e) => print(text, head, e, out),
-        Choice::Unknown => refused_line(3, out),
+    match Expander::try_from(head.expander) {
+        Ok(e) => print(text, head, e, out),
+        Err(_) => refused_line(Refusal::Expander.number(), out),
     }
 }

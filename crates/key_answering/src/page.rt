@@ -10,7 +10,7 @@ use crate::lines::{write_control, write_level, write_shares};
 use bits::{bit_at, packed_length, write_child};
 use expander::Expander;
 use nodes::level_start;
-use walk::shares_at;
+use walk::ServerKey;
 
 // The word `prefix`.
 const PREFIX: [u8; 6] = *b"prefix";
@@ -51,23 +51,26 @@ impl Key<'_> {
         ensures value { result ≡ at + length (side_of self.entry word.now k bit) }
         ensures out_after { out.new ≡ put_at out.old at (side_of self.entry word.now k bit) }
     {
-        let Key { e, n, share, .. } = self;
         let length = k + 1;
         let mut child = [0u8; 4];
         write_child(self.string, k as usize, bit, &mut child, 0);
         let end = packed_length(length as usize);
         let prefix = &child[..end];
-        let zero = shares_at(e, n, share, self.seed0, false, prefix, prefix, length);
-        let one = shares_at(e, n, share, self.seed1, true, prefix, prefix, length);
-        write_shares(
-            word,
-            prefix,
-            length as usize,
-            zero.first,
-            one.first,
-            out,
-            at,
-        )
+        let server0 = ServerKey {
+            expander: self.e,
+            n: self.n,
+            public_share: self.share,
+            seed: self.seed0,
+            server: false,
+        };
+        let server1 = ServerKey {
+            seed: self.seed1,
+            server: true,
+            ..server0
+        };
+        let (zero, _) = server0.shares_at(prefix, prefix, length);
+        let (one, _) = server1.shares_at(prefix, prefix, length);
+        write_shares(word, prefix, length as usize, zero, one, out, at)
     }
 
     // Writes the lines of the prefix that ends with bit k of the string, and of the one beside it.

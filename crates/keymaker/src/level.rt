@@ -35,6 +35,7 @@ fn lose_seed(a: bool, both: (Node, Node)) -> [u8; 16]
 }
 
 // The child taken, corrected where `on` is set.
+// `on` stays a flag: it is that of `corrected`.
 fn keep(a: bool, on: bool, seed: [u8; 16], left: bool, right: bool, both: (Node, Node)) -> Node
     ensures { node_of result ≡ corrected on seed (cond a right left) (cond a (node_of both.1) (node_of both.0)) }
 {

@@ -54,6 +54,7 @@ fn put_control(out: &mut [u8], k: u16, left: bool, right: bool)
 }
 
 // Seed and payload correction of a level into the places from `at` on.
+// The place stays beside the space, as in `write16` and `write_le8`, which are handed it.
 fn put_word(out: &mut [u8], at: usize, word: Correction)
     requires { at + 24 ≤ length out.old }
     ensures { out.new ≡ put_at out.old at (level_bytes (correction_of word)) }
@@ -65,6 +66,7 @@ fn put_word(out: &mut [u8], at: usize, word: Correction)
 }
 
 // The public share of the string, with its weight as a group number, into the beginning of `out`.
+// These are the arguments of `make_key` as they were judged, handed on once: a struct would be made and taken apart again.
 fn write_key(
     e: Expander,
     n: u16,
@@ -135,6 +137,7 @@ fn check(
 }
 
 // Writes the public share of a string of n bits with a weight; refuses with 1, 3, 4, 7 or 11.
+// C lends these one by one.
 pub fn make_key(
     n: u64,
     expander: u64,

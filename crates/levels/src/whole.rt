@@ -27,6 +27,7 @@ fn write_heading(area: &mut [u8], reports: u64) -> usize
 }
 
 // Writes the first query, `0` and `1`, from place `at` on.
+// The place stays beside the area, as in all that is written there.
 fn write_first(area: &mut [u8], at: usize)
     ensures { area.new ≡ put_at area.old at (query 0 (children start)) }
 {

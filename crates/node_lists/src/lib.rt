@@ -99,6 +99,7 @@ fn check_queries(
 }
 
 // The expander of a call of `share_kept`, or its first cause that applies, where `count` nodes and `room` bytes are lent.
+// C lends these one by one.
 pub fn check_kept(
     n: u64,
     expander: u64,

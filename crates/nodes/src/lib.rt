@@ -50,6 +50,7 @@ pub fn child(e: Expander, seed: [u8; 16], x: bool) -> Node
 }
 
 // A child with the seed and bit corrections XORed in where `on` is set.
+// `on` stays a flag: the definition `corrected` is made by it.
 pub fn corrected(on: bool, seed: [u8; 16], bit: bool, m: Node) -> Node
     ensures { node_of result ≡ corrected on seed bit (node_of m) }
 {

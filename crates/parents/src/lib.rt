@@ -43,6 +43,7 @@ fn same_bytes(a: &[u8], b: &[u8], w: usize) -> bool
 }
 
 // Whether the first k bits agree.
+// No equality of the library: bits are not bytes, and what is past the end counts as zeros.
 fn same_bits(a: &[u8], b: &[u8], k: usize) -> bool
     ensures { result ≡ agree k a.now b.now }
 {
@@ -69,6 +70,7 @@ fn down_from(last: &[u8], child: &[u8], k: usize, below: usize) -> Option<usize>
 
 // The place, among the first m of the last query, of the parent of a packed child of k + 1 bits, looked for from `hint` on, upwards or downwards, and
 // where there is none from the beginning.
+// `up` stays a flag: the definition `looked_up` is made by it.
 fn find_parent(
     last: &[u8],
     m: usize,

@@ -1,4 +1,5 @@
 // Queries as they are written: the two fields, kept prefixes, and their children. What does not fit is not written at all.
+// The place stays beside the bytes: the promises hold for every place, also one behind the end, from which no slice can be taken.
 ghost use Rattle.std.specs.Prelude.{◌≡◌, cond, [], ◌++◌, ◌+◌, length, take};
 ghost use Rattle.numbers.specs.Numbers.{big};
 ghost use Rattle.bits.specs.Packing.{packed_length, pack, unpack};
@@ -34,6 +35,7 @@ fn write_fitting(bytes: &[u8], out: &mut [u8], at: usize) -> usize
 
 // Writes the packed prefix in the w bytes of `source` from place `from` on into the places of `out` from `at` on, if it is kept; and the place after
 // what is written.
+// `kept` stays a flag, here and in `write_both_children`: their promises are made by it, for both of its values.
 pub fn write_prefix(
     kept: bool,
     source: &[u8],

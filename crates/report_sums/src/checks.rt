@@ -30,6 +30,7 @@ pub fn all_spare_bits_zero(n: u16, reports: usize, shares: &[u8]) -> bool
 }
 
 // Whether the seeds or the public shares have the wrong length, or disagree in count.
+// Seeds and public shares stay beside each other: C lends them so, and before they are judged they belong to no server.
 pub fn wrong_lengths(n: u16, seeds: &[u8], shares: &[u8]) -> bool
     ensures { result ≡ wrong_lengths n seeds.now shares.now }
 {

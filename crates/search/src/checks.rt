@@ -99,6 +99,7 @@ fn check_settings(n: u64, weighted: bool, t: u64, expander: u64) -> Result<Expan
 }
 
 // The first cause of what is lent that applies; or the expander.
+// C lends these one by one.
 pub(crate) fn check(
     n: u64,
     weighted: bool,

@@ -13,6 +13,7 @@ use kept::Rule;
 use levels::{Lengths, Search};
 
 // What C is told: the number of the cause that refused it, or 0; and how many bytes were written of the record and of the list.
+// Numbers and a length beside each other: C reads it so.
 #[repr(C)]
 #[derive(Clone, Copy)]
 pub struct Found {
@@ -42,6 +43,7 @@ impl From<Result<Lengths, Refusal>> for Found {
 
 // Searches: writes the record, the number of reports and then each query followed by its totals; and the list of the kept strings of n bits; refuses
 // with 1 to 8, with 12 in the place of 2 where the search is weighted, or with 11, when the record area becomes zero.
+// C lends these one by one.
 pub fn search(
     n: u64,
     weighted: bool,

@@ -24,6 +24,7 @@ pub fn signed(x: u64) -> i64
 }
 
 // A signed number of 16 bits as a group number.
+// It casts: by `i64::from` two goals stayed open.
 pub fn from_signed(w: i16) -> u64
     ensures { (result ≡ embed modulus w) × (result < modulus) }
 {

@@ -125,6 +125,7 @@ fn add_at(out: &mut [u8], j: usize, share: u64)
 }
 
 // One turn: what it makes of the node at its source and of the sums; the node to write, and the next place.
+// What is handed on beside the task is said at `Task`, here and in `advance` of `kept_nodes`.
 #[tactic(auto, unfolding(crate::specs::Turns::turned_node, crate::specs::Turns::turned_sums))]
 pub fn turn(
     task: Task,
@@ -152,6 +153,7 @@ pub fn turn(
 }
 
 // Judges a call that is lent `count` nodes, and makes its sums zero where no cause applies.
+// C lends these one by one.
 #[tactic(auto, using(crate::proofs::Begun::begun_ready), unfolding(crate::specs::Turns::cleared, places::specs::Places::overlay))]
 pub fn begin(
     n: u64,

@@ -23,6 +23,7 @@ pub struct ServerKey<'a> {
 }
 
 // Whether the first k bits of two packed prefixes agree.
+// No equality of the library: bits are not bytes, and what is past the end counts as zeros.
 fn same_bits(first: &[u8], second: &[u8], k: u16) -> bool
     ensures below { result ≡ true → Below k (bit_of (bits_of first.now)) (bit_of (bits_of second.now)) }
     ensures fact { result ≡ false → Below k (bit_of (bits_of first.now)) (bit_of (bits_of second.now)) → ⊥ }

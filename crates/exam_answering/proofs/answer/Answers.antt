@@ -9,6 +9,7 @@ use borrow.Author.Tests.{not-true, not-false, ltb-true, ltb-false}
 use lib.ListN.{length}
 use Rattle.calls.specs.Bounds.{most_threshold, outside}
 use Rattle.calls.proofs.Decisions.{bounds}
+use Rattle.calls.specs.declared.Refusal.TheVariants.{StringLength, Threshold, Expander, Text}
 use Rattle.expander.specs.Expander.{is_expander}
 use Rattle.exam_text.specs.Sheet.{expander_number, Within}
 use Rattle.exam_text.specs.Reader.{is_sheet, sheet_of, SheetSays}
@@ -64,7 +65,7 @@ pub returns-in_default : goal.returns-in_default
 returns-in_default c =
     let a = c.args in
     let none : is_sheet a.text.now ≡ false = sym c.in_default.ensures.sheet in
-    refused_reply a.text.now a.out.now 10 _ (no_sheet_lem a.text.now (length a.out.now) none) c.refusal.ensures.0 c.refusal.ensures.1
+    refused_reply a.text.now a.out.now Text (no_sheet_lem a.text.now (length a.out.now) none)
 
 pub returns-then-no_bits : goal.returns-then-no_bits
 returns-then-no_bits c =
@@ -73,7 +74,7 @@ returns-then-no_bits c =
     let s = c.in-Some.ensures.says in
     let less = ltb-true c.in-Some.sheet.n 1 c.if-no_bits.true-raw in
     let is = no_bits a.text.now (length a.out.now) is_read (omega (arith, less, s.n_read)) in
-    refused_reply a.text.now a.out.now 1 _ is c.refusal-then-no_bits.ensures.0 c.refusal-then-no_bits.ensures.1
+    refused_reply a.text.now a.out.now StringLength is
 
 pub returns-then-outside : goal.returns-then-outside
 returns-then-outside c =
@@ -81,7 +82,7 @@ returns-then-outside c =
     let e = g.After-is_expander-known in
     let beyond = sym (threshold e) ∙ c.if-outside.true in
     let is = bad_threshold (text e) (length (out e)) (read e) (from e (some_bits g.Else-no_bits)) (to e) beyond in
-    refused_reply (text e) (out e) 2 _ is c.refusal-then-outside.ensures.0 c.refusal-then-outside.ensures.1
+    refused_reply (text e) (out e) Threshold is
 
 pub returns-then-not-known : goal.returns-then-not-known
 returns-then-not-known c =
@@ -90,7 +91,7 @@ returns-then-not-known c =
     let within-most : c.threshold_outside-outside.result ≡ false = search rules in
     let unknown = sym (answered e) ∙ not-true _ c.if-not-known.true-raw in
     let is = no_expander (text e) (length (out e)) (read e) (from e (some_bits g.Else-no_bits)) (to e) (inside e within-most) unknown in
-    refused_reply (text e) (out e) 3 _ is c.refusal-then-not-known.ensures.0 c.refusal-then-not-known.ensures.1
+    refused_reply (text e) (out e) Expander is
 
 pub solve-requires : goal.solve-requires
 solve-requires c =

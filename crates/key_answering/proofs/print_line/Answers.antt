@@ -8,6 +8,7 @@ use Rattle.point.specs.PublicShare.{public_share_length}
 use Rattle.exam_text.specs.Sheet.{Line}
 use Rattle.exam_text.specs.Reader.{line_at}
 use Rattle.exam_text.proofs.Placed.{Sound, stands_sound}
+use Rattle.exam_lines.proofs.Inside.{area_left}
 use Rattle.key_answering.specs.KeyPage.{page}
 use Rattle.key_answering.specs.KeyAnswer.{line_page}
 use Rattle.key_answering.proofs.LineKey.{packed_length_lem, share_length, page_read_lem, line_most}
@@ -37,7 +38,7 @@ share p s =
     let q = p.requires.le_n in
     let r = p.read_line-line.ensures in
     share_length a.head.n a.head.expander a.e q.0 q.1 q.2 (line_at a.head.n a.head.place a.text.now) s _ _ p.packed_length-end.ensures r.string _ _ a.share.now _ r.seeds.0 r.seeds.1
-    p.requires.share_len.0 (ap (λ (x : Exit). x.area) p.make_key.ensures) _ p.public_share_length-size.ensures
+    p.requires.share_len.0 (area_left _ _ ∙ ap (λ (x : Exit). x.area) p.make_key.ensures) _ p.public_share_length-size.ensures
 
 whole : (p : After-public_share_length-size) (s : Sound p.args.head.n (line_at p.args.head.n p.args.head.place p.args.text.now)) → let a = p.args in
     let l = p.read_line-line.result in
@@ -48,7 +49,7 @@ whole p s =
     let q = p.requires.le_n in
     let r = p.read_line-line.ensures in
     page_read_lem a.head.n a.head.expander a.e q.0 q.1 q.2 (line_at a.head.n a.head.place a.text.now) s _ _ p.packed_length-end.ensures r.string _ _ a.share.now _ r.seeds.0 r.seeds.1
-    p.requires.share_len.0 (ap (λ (x : Exit). x.area) p.make_key.ensures) _ p.public_share_length-size.ensures
+    p.requires.share_len.0 (area_left _ _ ∙ ap (λ (x : Exit). x.area) p.make_key.ensures) _ p.public_share_length-size.ensures
 
 -- ---- the needs
 pub slice_bounds-packed-end : goal.slice_bounds-packed-end

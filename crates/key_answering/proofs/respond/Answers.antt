@@ -30,31 +30,31 @@ few e = let told = e.in-Some.ensures.says in rw (← told.n_read) told.n_most
 pub returns-in_default : goal.returns-in_default
 returns-in_default c =
     let a = c.args in
-    c.refused_line.ensures ∙ ap (λ (o : Outcome). exit o a.out.now) (none_responds a.text.now (length a.out.now) (sym c.in_default.ensures.key))
+    (rw c.number.ensures at c.refused_line.ensures) ∙ ap (λ (o : Outcome). exit o a.out.now) (none_responds a.text.now (length a.out.now) (sym c.in_default.ensures.key))
 
 pub returns-then-head-lt1 : goal.returns-then-head-lt1
 returns-then-head-lt1 c =
     let a = c.args in
-    c.refused_line-then-head-lt1.ensures
+    (rw c.number-then-head-lt1.ensures at c.refused_line-then-head-lt1.ensures)
     ∙ ap (λ (o : Outcome). exit o a.out.now) (no_bits_responds a.text.now (length a.out.now) (is_line_lem (goal.at.returns-then-head-lt1 c).In-Some) (rw (says (goal.at.returns-then-head-lt1 c).In-Some).n_read at c.if-head-lt1.true))
 
 pub print-requires : goal.print-requires
 print-requires c =
     let told = says (goal.at.print-requires c).In-Some in
-    (omega (arith, c.if-head-lt1.false), told.n_most, sym c.choose.ensures ∙ c.in-Known.is, told.stands)
+    (omega (arith, c.if-head-lt1.false), told.n_most, c.in-Ok.ensures, told.stands)
 
-pub returns-in-Known : goal.returns-in-Known
-returns-in-Known c =
-    let told = says (goal.at.returns-in-Known c).In-Some in
+pub returns-in-Ok : goal.returns-in-Ok
+returns-in-Ok c =
+    let told = says (goal.at.returns-in-Ok c).In-Some in
     let a = c.args in
-    let known = sym c.choose.ensures ∙ c.in-Known.is in
+    let known = c.in-Ok.ensures in
     c.print.ensures
-    ∙ ap₂ (λ (m : ℕ) (k : Line). exit (written_in (line_page m k c.in-Known.e) (length a.out.now)) a.out.now) told.n_read told.line_read
-    ∙ ap (λ (o : Outcome). exit o a.out.now) (page_responds a.text.now (length a.out.now) (is_line_lem (goal.at.returns-in-Known c).In-Some) (some (goal.at.returns-in-Known c).Else-head-lt1) (few (goal.at.returns-in-Known c).Else-head-lt1) _ (rw told.expander_read at known))
+    ∙ ap₂ (λ (m : ℕ) (k : Line). exit (written_in (line_page m k c.in-Ok.e) (length a.out.now)) a.out.now) told.n_read told.line_read
+    ∙ ap (λ (o : Outcome). exit o a.out.now) (page_responds a.text.now (length a.out.now) (is_line_lem (goal.at.returns-in-Ok c).In-Some) (some (goal.at.returns-in-Ok c).Else-head-lt1) (few (goal.at.returns-in-Ok c).Else-head-lt1) _ (rw told.expander_read at known))
 
-pub returns-in-Unknown : goal.returns-in-Unknown
-returns-in-Unknown c =
+pub returns-in-Err : goal.returns-in-Err
+returns-in-Err c =
     let a = c.args in
-    let unknown = sym c.choose.ensures ∙ c.in-Unknown.is in
-    c.refused_line-in-Unknown.ensures
-    ∙ ap (λ (o : Outcome). exit o a.out.now) (unknown_responds a.text.now (length a.out.now) (is_line_lem (goal.at.returns-in-Unknown c).In-Some) (some (goal.at.returns-in-Unknown c).Else-head-lt1) (few (goal.at.returns-in-Unknown c).Else-head-lt1) (rw (says (goal.at.returns-in-Unknown c).In-Some).expander_read at unknown))
+    let unknown = c.in-Err.ensures in
+    (rw c.number-in-Err.ensures at c.refused_line-in-Err.ensures)
+    ∙ ap (λ (o : Outcome). exit o a.out.now) (unknown_responds a.text.now (length a.out.now) (is_line_lem (goal.at.returns-in-Err c).In-Some) (some (goal.at.returns-in-Err c).Else-head-lt1) (few (goal.at.returns-in-Err c).Else-head-lt1) (rw (says (goal.at.returns-in-Err c).In-Some).expander_read at unknown))

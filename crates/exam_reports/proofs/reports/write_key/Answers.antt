@@ -1,6 +1,6 @@
 -- `exam_reports::reports::write_key` meets its contract: what the key maker writes into the part that it is lent is put at its place.
 use Rattle.point.specs.PublicShare.{public_share_length}
-use Rattle.std.proofs.Common.{◌≡◌, ◌∙◌, ℕ, List, refl, sym, Result, Ok, Err}
+use Rattle.std.proofs.Common.{◌≡◌, ◌∙◌, ℕ, List, refl, Result, Ok, Err}
 use Rattle.calls.specs.Outcome.{Exit, answered}
 use Rattle.calls.specs.declared.Refusal.{Refusal}
 use lib.IntN.{pos}

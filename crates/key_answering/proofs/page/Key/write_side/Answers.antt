@@ -20,8 +20,8 @@ packed c =
 
 -- the line that is written
 line : (o : After-shares_at-one) → let a = o.args in
-    shares_line a.word.now (unpack (a.k + 1) (take o.packed_length-end.result o.write_child.new.out)) o.shares_at-zero.result.first
-    o.shares_at-one.result.first
+    shares_line a.word.now (unpack (a.k + 1) (take o.packed_length-end.result o.write_child.new.out)) o.shares_at-zero.result.0
+    o.shares_at-one.result.0
     ≡ shares_line_at a.self.e a.self.n (unpack a.self.n a.self.string.now) a.self.seed0 a.self.seed1 a.self.share.now a.word.now (take a.k (unpack a.self.n a.self.string.now) ▹ a.bit)
 line o =
     let a = o.args in
