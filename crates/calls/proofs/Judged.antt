@@ -15,11 +15,10 @@ use Rattle.expander.specs.Expander.{is_expander}
 use Rattle.expander.proofs.Chosen.{unnamed, unnamed_test}
 use Rattle.calls.specs.Bounds.{most_bits, threshold_most, threshold_number, most_reports, outside, length_cause, threshold_cause, expander_cause, reports_cause, space_cause}
 use Rattle.calls.specs.Causes.{Cause, cause, number_due, Due}
-use Rattle.calls.specs.Outcome.{Outcome, refused, accepted, judged, Exit, exit, answered, left}
+use Rattle.calls.specs.Outcome.{refused, accepted, judged, exit, answered}
 use Rattle.calls.specs.Refusals.{number_of}
 use Rattle.calls.specs.declared.Refusal.{Refusal}
 use Rattle.calls.specs.declared.Refusal.TheVariants.{StringLength, Threshold, Expander, Lengths, TooManyReports, PayloadTooLarge, SpareBits, SharesDiffer, Query, Text, NoSpace, WeightedThreshold, Nodes, NoParent}
-use Rattle.calls.specs.declared.Reply.{Reply}
 use Rattle.calls.proofs.Decisions.{beyond, beyond_test}
 
 -- ---- the number that is due
