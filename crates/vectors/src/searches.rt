@@ -1,7 +1,6 @@
 // Whole searches: examples D to J of the sheet, and the bounds of n and t, as lines.
 use crate::hexadecimal::Hexadecimal;
 use numbers::write_le8;
-use places::copy;
 use search::Found;
 use std::io;
 use std::io::Write;
