@@ -1,4 +1,5 @@
 // The functions that C and Rust link, which crate `capi_c` exports.
+// Each argument is lent on its own, and what is returned are structs of numbers: C reads it so.
 #![tactic(auto)]
 
 mod one_block;

@@ -1,4 +1,5 @@
 // The queries and totals of a search's record, and its list, as text. Each function that writes at a place gives back the place behind what it wrote.
+// The place stays beside the space, as in the writers of `exam_lines`, which are handed it.
 ghost use Rattle.std.specs.Prelude.{◌≡◌, ◌+◌, ◌*◌, ◌/◌, ◌≤◌, length, take, drop};
 ghost use Rattle.numbers.specs.Numbers.{from_little};
 ghost use Rattle.bits.specs.Packing.{packed_length, unpack};
@@ -18,6 +19,7 @@ use tree::HEADING_LENGTH;
 // ---- a round of a record
 
 // Writes the line of the prefix of k bits in w bytes from place `from` of a round on, whose total stands from `place` on.
+// A round is a query with its totals behind it, so both of its places are counted from its beginning.
 fn write_entry(
     round: &[u8],
     k: usize,

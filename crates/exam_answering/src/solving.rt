@@ -23,6 +23,7 @@ use nodes::public_share_length;
 use search::Found;
 
 // Prints the queries and totals of the record, and the list, of a search that is accepted; both servers are lent the same public shares.
+// The spaces are lent one by one, here and in `print_answer`: a struct of six borrowed arrays would be made once and taken apart at once.
 fn search_printed(
     sheet: SheetHead,
     seeds0: &[u8],
@@ -54,6 +55,7 @@ fn search_printed(
 }
 
 // Makes the reports of the sheet of a text, searches them, and prints what is found from the beginning of `out` on. It is lent the space for 32 reports, for a record and for a list.
+// What `answer` found of the sheet stays in the clauses, here, in `solve` and in `exam_reports`: `read_sheet` promises a sheet with n = 0 or another expander, too.
 fn print_answer(
     text: &[u8],
     sheet: SheetHead,

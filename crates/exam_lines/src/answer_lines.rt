@@ -1,4 +1,5 @@
 // The lines of an answer, and that of a refusal. Each function that writes at a place gives back the place behind what it wrote.
+// The place stays beside the space, as in the writers of `fields`, which are handed it.
 ghost use Rattle.std.specs.Prelude.{◌≡◌, ◌+◌, ◌≤◌, length};
 ghost use Rattle.bits.specs.Packing.{packed_length, unpack};
 ghost use Rattle.places.specs.Places.{put_at, overlay};

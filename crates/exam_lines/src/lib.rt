@@ -1,4 +1,5 @@
 // The lines of an answer, and that of a refusal. Every published function answers for all inputs.
+// The place stays beside the space: the promises hold for every place, also one behind the end, from which no slice can be taken.
 #![tactic(auto)]
 
 ghost use Rattle.std.specs.Prelude.{◌≡◌, length};

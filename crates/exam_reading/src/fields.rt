@@ -1,4 +1,5 @@
 // The decimal fields of a first line or of a key line: a number of one to five digits and the character behind it.
+// A field is read at a place and not from a slice: what is behind it is told as a place of the whole text.
 ghost use Rattle.std.specs.Prelude.{◌≡◌, true, ◌≤◌, ◌<◌, length, drop, is_some, IfSome};
 ghost use Rattle.std.specs.List.{list_all};
 ghost use Rattle.exam_text.specs.Reader.{is_decimal, leading, is_number, number_then, number_after};

@@ -24,6 +24,7 @@ pub(crate) struct FirstLine {
 }
 
 // The end of a first line, `C` or `C e`, at a place.
+// It reads at a place, as `read_field` does.
 fn read_end(text: &[u8], at: usize) -> Option<End>
     requires { at ≤ length text.now }
     ensures laid { is_some result ≡ is_end (drop at text.now) }

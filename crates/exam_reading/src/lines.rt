@@ -57,6 +57,7 @@ pub(crate) fn are_lines(text: &[u8], n: usize, count: usize) -> bool
 }
 
 // Whether a line for strings of n bits, at most 32, stands at a place.
+// The place may be any, as that of `read_line`.
 pub(crate) fn has_line(text: &[u8], at: usize, n: usize) -> bool
     ensures { result ≡ has_line n at text.now }
 {

@@ -1,4 +1,5 @@
 // The reports of a sheet: for each line its two root seeds, and the public share that the key maker gives for its string.
+// The areas stay beside each other and a place beside them: `make_reports` is lent each on its own, and a report stands at another place in each.
 ghost use Rattle.std.specs.Prelude.{◌≡◌, true, ◌+◌, ◌*◌, ◌≤◌, length, drop, pos};
 ghost use Rattle.places.specs.Places.{put_at, overlay};
 ghost use Rattle.expander.specs.Expander.{is_expander};

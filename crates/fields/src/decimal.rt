@@ -1,4 +1,5 @@
 // Single characters, and numbers in decimal.
+// The place stays beside the space, as in the published writers of this crate, which are handed it.
 ghost use Rattle.std.specs.Prelude.{◌≡◌, [], ◌∷◌, ◌+◌, ◌≤◌, ◌<◌, length};
 ghost use Rattle.places.specs.Places.{put_at};
 ghost use Rattle.exam_text.specs.Characters.{decimal};
@@ -17,6 +18,7 @@ pub(crate) fn put(out: &mut [u8], at: usize, character: u8) -> usize
 }
 
 // The character of a decimal digit.
+// It adds by hand: no conversion of the library makes a character's byte of a digit.
 fn digit(x: u64) -> u8
     requires { x < 10 }
     ensures { result ≡ 48 + x }

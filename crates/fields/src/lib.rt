@@ -1,4 +1,5 @@
 // The fields of a line, each with the one character behind it. A field that has no room is not written at all, and the place itself is given back.
+// The place stays beside the space in all of them: the promises hold for every place, also one behind the end, from which no slice can be taken.
 #![tactic(auto)]
 
 ghost use Rattle.std.specs.Prelude.{◌≡◌, [], ◌∷◌, ◌++◌, ◌+◌, ◌≤◌, ◌<◌, length};

@@ -1,4 +1,5 @@
 // Packed bit strings as characters.
+// The place stays beside the space, as in the published writers of this crate, which are handed it.
 ghost use Rattle.std.specs.Prelude.{◌≡◌, ◌&&◌, ◌+◌, ◌≤◌, length, leb, eqb};
 ghost use Rattle.places.specs.Lists.{digit};
 ghost use Rattle.places.specs.Places.{put_at};

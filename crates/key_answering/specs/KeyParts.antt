@@ -1,14 +1,10 @@
 -- The parts of the page of a key, as the code holds it.
-use Rattle.std.specs.Prelude.{ℕ, ◌≤◌, ◌≡◌, Bool, List, length, take}
+use Rattle.std.specs.Prelude.{ℕ, Bool, List, take}
 use Rattle.bits.specs.Strings.{Bits, ◌▹◌}
-use Rattle.bits.specs.Packing.{packed_length, unpack}
+use Rattle.bits.specs.Packing.{unpack}
 use Rattle.point.specs.PublicShare.{joined, read_correction}
-use Rattle.key_answering.specs.declared.page.Key.{Key}
+use Rattle.key_answering.specs.declared.key.Key.{Key}
 use Rattle.key_answering.specs.KeyPage.{level_line, shares_line_at, path_lines, page}
-
--- its string has at most 32 bits, and is packed in as many bytes as they take
-abbrev pub IsPacked : Key → Type 0
-IsPacked key = (key.n ≤ 32) × (length key.string.now ≡ packed_length key.n)
 
 -- the bits of its string
 abbrev pub string_of : Key → Bits

@@ -11,7 +11,7 @@ ghost use Rattle.exam_lines.specs.Lines.{written_in};
 ghost use Rattle.key_answering.specs.KeyPage.{page, page_space};
 ghost use Rattle.key_answering.specs.KeyAnswer.{line_page, respond_outcome};
 
-use crate::page::Key;
+use crate::key::Key;
 use bits::packed_length;
 use calls::Refusal;
 use exam_lines::{refused_line, write_text};
@@ -19,6 +19,7 @@ use exam_reading::{KeyHead, read_key_line, read_line};
 use expander::Expander;
 use nodes::public_share_length;
 
+mod key;
 mod lines;
 mod page;
 

@@ -1,6 +1,6 @@
 // The lines of a page. Each function gives back the place behind what it wrote.
+// The place stays beside the space, as in the writers of `fields`, which are handed it.
 ghost use Rattle.std.specs.Prelude.{◌≡◌, ◌+◌, ◌≤◌, length};
-ghost use Rattle.places.specs.Lists.{digit};
 ghost use Rattle.places.specs.Places.{put_at};
 ghost use Rattle.bits.specs.Packing.{packed_length, unpack};
 ghost use Rattle.nodes.specs.NodeLayout.{correction_of};
@@ -47,13 +47,6 @@ fn write_correction(word: Correction, out: &mut [u8], at: usize) -> usize
     write_hex(&payload, NEWLINE, out, here)
 }
 
-// A bit as a number.
-fn bit(b: bool) -> u64
-    ensures { result ≡ digit b }
-{
-    if b { 1 } else { 0 }
-}
-
 // Writes the line of level k, of n, of a public share.
 pub(crate) fn write_level(share: &[u8], n: u16, k: u16, out: &mut [u8], at: usize) -> usize
     requires { at + length (level_line k (read_correction n share.now k)) ≤ length out.old }
@@ -63,12 +56,13 @@ pub(crate) fn write_level(share: &[u8], n: u16, k: u16, out: &mut [u8], at: usiz
     let word = read_correction(share, n, k);
     let mut here = write_word(&LEVEL, SPACE, out, at);
     here = write_number(k as u64 + 1, SPACE, out, here);
-    here = write_number(bit(word.left), SPACE, out, here);
-    here = write_number(bit(word.right), SPACE, out, here);
+    here = write_number(u64::from(word.left), SPACE, out, here);
+    here = write_number(u64::from(word.right), SPACE, out, here);
     write_correction(word, out, here)
 }
 
 // Writes a word, the prefix of k bits that is packed, both servers' shares at it, and their sum.
+// Each argument is a field of the line.
 pub(crate) fn write_shares(
     word: &[u8],
     packed: &[u8],

@@ -1,14 +1,15 @@
 // The page of a string: its public share, level by level, and both servers' shares at its prefixes and beside them. Each function gives back the
 // place behind what it wrote.
+// The place stays beside the space, as in the writers of `fields`, which are handed it.
 ghost use Rattle.std.specs.Prelude.{◌≡◌, true, false, ◌+◌, ◌≤◌, ◌<◌, length};
 ghost use Rattle.places.specs.Places.{put_at, overlay};
 ghost use Rattle.point.specs.PublicShare.{joined, public_share_length};
 ghost use Rattle.key_answering.specs.KeyPage.{page_space};
-ghost use Rattle.key_answering.specs.KeyParts.{IsPacked, levels_of, side_of, pair_of, page_of};
+ghost use Rattle.key_answering.specs.KeyParts.{levels_of, side_of, pair_of, page_of};
 
+use crate::key::Key;
 use crate::lines::{write_control, write_level, write_shares};
 use bits::{bit_at, packed_length, write_child};
-use expander::Expander;
 use nodes::level_start;
 use walk::ServerKey;
 
@@ -17,17 +18,6 @@ const PREFIX: [u8; 6] = *b"prefix";
 
 // The word `beside`.
 const BESIDE: [u8; 6] = *b"beside";
-
-// A string of n bits, its two root seeds and its public share, under an expander.
-#[derive(Clone, Copy)]
-pub(crate) struct Key<'a> {
-    pub(crate) e: Expander,
-    pub(crate) n: u16,
-    pub(crate) string: &'a [u8],
-    pub(crate) seed0: [u8; 16],
-    pub(crate) seed1: [u8; 16],
-    pub(crate) share: &'a [u8],
-}
 
 impl Key<'_> {
     // Writes the lines of all n levels of the public share.
@@ -46,7 +36,7 @@ impl Key<'_> {
 
     // Writes the line of the prefix that has the first k bits of the string and then `bit`.
     fn write_side(self, word: &[u8], k: u16, bit: bool, out: &mut [u8], at: usize) -> usize
-        requires packed { IsPacked self × (k < self.n) }
+        requires level { k < self.n }
         requires room { at + length (side_of self word.now k bit) ≤ length out.old }
         ensures value { result ≡ at + length (side_of self.entry word.now k bit) }
         ensures out_after { out.new ≡ put_at out.old at (side_of self.entry word.now k bit) }
@@ -75,7 +65,7 @@ impl Key<'_> {
 
     // Writes the lines of the prefix that ends with bit k of the string, and of the one beside it.
     fn write_pair(self, k: u16, out: &mut [u8], at: usize) -> usize
-        requires packed { IsPacked self × (k < self.n) }
+        requires level { k < self.n }
         requires room { at + length (pair_of self k) ≤ length out.old }
         ensures value { result ≡ at + length (pair_of self.entry k) }
         ensures out_after { out.new ≡ put_at out.old at (pair_of self.entry k) }
@@ -87,7 +77,6 @@ impl Key<'_> {
 
     // Writes these lines for every bit of the string.
     fn write_path(self, out: &mut [u8], at: usize) -> usize
-        requires packed { IsPacked self }
         requires room { at + length (joined self.n (pair_of self)) ≤ length out.old }
         ensures value { result ≡ at + length (joined self.entry.n (pair_of self.entry)) }
         ensures out_after { out.new ≡ put_at out.old at (joined self.entry.n (pair_of self.entry)) }
@@ -101,7 +90,7 @@ impl Key<'_> {
 
     // Writes the page of the key into the beginning of `out`.
     pub(crate) fn write_page(self, out: &mut [u8]) -> usize
-        requires packed { IsPacked self × (length self.share.now ≡ public_share_length self.n) }
+        requires whole { length self.share.now ≡ public_share_length self.n }
         requires room { page_space ≤ length out.old }
         ensures value { result ≡ length (page_of self.entry) }
         ensures out_after { out.new ≡ overlay (page_of self.entry) out.old }

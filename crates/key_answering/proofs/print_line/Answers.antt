@@ -66,7 +66,7 @@ pub write_page-requires : goal.write_page-requires
 write_page-requires c =
     let at = goal.at.write_page-requires c in
     let s = sound at.Start in
-    record { packed = ((c.requires.le_n.1, packed at.After-packed_length-end s), share at.After-public_share_length-size s); room = c.requires.share_len.1 }
+    record { whole = share at.After-public_share_length-size s; room = c.requires.share_len.1 }
 
 pub returns : goal.returns
 returns c =

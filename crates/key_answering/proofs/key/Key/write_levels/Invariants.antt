@@ -3,7 +3,7 @@ use mathlib.Core.List.{List}
 use Rattle.point.specs.PublicShare.{joined, read_correction}
 use Rattle.fields.proofs.FieldChain.{Wrote}
 use Rattle.key_answering.specs.KeyPage.{level_line}
-use Rattle.key_answering.proofs.page.Key.write_levels.Given as goal
+use Rattle.key_answering.proofs.key.Key.write_levels.Given as goal
 
 -- the line of a level
 abbrev line : List ℕ → ℕ → ℕ → List ℕ

@@ -6,8 +6,8 @@ use mathlib.Core.List.{List}
 use Rattle.bits.specs.Packing.{unpack}
 use Rattle.key_answering.specs.KeyPage.{path_lines}
 use Rattle.key_answering.proofs.Joined.{none_written, next_room, next_written}
-use Rattle.key_answering.proofs.page.Key.write_path.Goals as goal
-use Rattle.key_answering.proofs.page.Key.write_path.Goals.{Start}
+use Rattle.key_answering.proofs.key.Key.write_path.Goals as goal
+use Rattle.key_answering.proofs.key.Key.write_path.Goals.{Start}
 
 -- the lines of a bit
 abbrev lines : Start → ℕ → List ℕ
@@ -20,7 +20,7 @@ pub write_pair-here-requires : goal.write_pair-here-requires
 write_pair-here-requires c =
     let a = c.args in
     let l = c.loop-k in
-    record { packed = (c.requires.packed, omega arith); room = next_room (lines (goal.at.write_pair-here-requires c).Start) a.out.now a.at a.self.n c.requires.room l.k (omega arith) _ _ l.invariant }
+    record { level = omega arith; room = next_room (lines (goal.at.write_pair-here-requires c).Start) a.out.now a.at a.self.n c.requires.room l.k (omega arith) _ _ l.invariant }
 
 pub loop-k-preserved : goal.loop-k-preserved
 loop-k-preserved c =

@@ -13,8 +13,8 @@ use Rattle.point.specs.PublicShare.{joined, control_bytes, read_correction}
 use Rattle.fields.proofs.FieldChain.{Wrote, rest_room, rest_written}
 use Rattle.key_answering.specs.KeyPage.{control_line, level_line, path_lines, page, page_space}
 use Rattle.key_answering.proofs.Lengths.{page_most}
-use Rattle.key_answering.proofs.page.Key.write_page.Goals as goal
-use Rattle.key_answering.proofs.page.Key.write_page.Goals.{After-level_start-control, After-write_control-levels}
+use Rattle.key_answering.proofs.key.Key.write_page.Goals as goal
+use Rattle.key_answering.proofs.key.Key.write_page.Goals.{After-level_start-control, After-write_control-levels}
 
 -- ---- the parts of the page
 module _ (e : Expander) (n : ℕ) (string seed0 seed1 share : List ℕ) where
@@ -53,12 +53,12 @@ control_wrote w is = let l = w.write_control-levels in rw (← is) (l.ensures.va
 -- ---- the needs
 pub slice_bounds-write_control-end : goal.slice_bounds-write_control-end
 slice_bounds-write_control-end c =
-    sym (length-take-le c.level_start-control.result c.args.self.share.now (omega (arith, c.level_start-control.ensures, c.requires.packed.1)))
+    sym (length-take-le c.level_start-control.result c.args.self.share.now (omega (arith, c.level_start-control.ensures, c.requires.whole)))
 
 pub write_control-levels-requires : goal.write_control-levels-requires
 write_control-levels-requires c =
     let a = c.args in
-    let fits = room a.self.e a.self.n a.self.string.now a.self.seed0 a.self.seed1 a.self.share.now c.requires.packed.0.0 c.requires.packed.0.1 a.out.now c.requires.room in
+    let fits = room a.self.e a.self.n a.self.string.now a.self.seed0 a.self.seed1 a.self.share.now c.args.self.packed.0 c.args.self.packed.1 a.out.now c.requires.room in
     let all = whole a.self.e a.self.n a.self.string.now a.self.seed0 a.self.seed1 a.self.share.now in
     rw (begin (goal.at.write_control-levels-requires c).After-level_start-control)
     (grown_room a.out.now 0 a.out.now 0 (control a.self.e a.self.n a.self.string.now a.self.seed0 a.self.seed1 a.self.share.now) (levels a.self.e a.self.n a.self.string.now a.self.seed0 a.self.seed1 a.self.share.now ++ path a.self.e a.self.n a.self.string.now a.self.seed0 a.self.seed1 a.self.share.now) all (grown_start a.out.now 0 all) fits)
@@ -67,7 +67,7 @@ pub write_levels-path-requires : goal.write_levels-path-requires
 write_levels-path-requires c =
     let a = c.args in
     let at = goal.at.write_levels-path-requires c in
-    let fits = room a.self.e a.self.n a.self.string.now a.self.seed0 a.self.seed1 a.self.share.now c.requires.packed.0.0 c.requires.packed.0.1 a.out.now c.requires.room in
+    let fits = room a.self.e a.self.n a.self.string.now a.self.seed0 a.self.seed1 a.self.share.now c.args.self.packed.0 c.args.self.packed.1 a.out.now c.requires.room in
     grown_room a.out.now 0 _ _ (levels a.self.e a.self.n a.self.string.now a.self.seed0 a.self.seed1 a.self.share.now) (path a.self.e a.self.n a.self.string.now a.self.seed0 a.self.seed1 a.self.share.now) (whole a.self.e a.self.n a.self.string.now a.self.seed0 a.self.seed1 a.self.share.now)
     (first a.self.e a.self.n a.self.string.now a.self.seed0 a.self.seed1 a.self.share.now a.out.now fits _ _ (control_wrote at.After-write_control-levels (begin at.After-level_start-control))) fits
 
@@ -75,10 +75,9 @@ pub write_path-requires : goal.write_path-requires
 write_path-requires c =
     let a = c.args in
     let at = goal.at.write_path-requires c in
-    let fits = room a.self.e a.self.n a.self.string.now a.self.seed0 a.self.seed1 a.self.share.now c.requires.packed.0.0 c.requires.packed.0.1 a.out.now c.requires.room in
+    let fits = room a.self.e a.self.n a.self.string.now a.self.seed0 a.self.seed1 a.self.share.now c.args.self.packed.0 c.args.self.packed.1 a.out.now c.requires.room in
     let v = c.write_levels-path in
     record {
-      packed = c.requires.packed.0;
       room = rest_room a.out.now 0 (whole a.self.e a.self.n a.self.string.now a.self.seed0 a.self.seed1 a.self.share.now) fits _ _ (path a.self.e a.self.n a.self.string.now a.self.seed0 a.self.seed1 a.self.share.now)
           (second a.self.e a.self.n a.self.string.now a.self.seed0 a.self.seed1 a.self.share.now a.out.now fits _ _ (control_wrote at.After-write_control-levels (begin at.After-level_start-control)) _ _ (v.ensures.value, v.ensures.out_after));
     }
@@ -88,7 +87,7 @@ unfolding page
 returns c =
     let a = c.args in
     let at = goal.at.returns c in
-    let fits = room a.self.e a.self.n a.self.string.now a.self.seed0 a.self.seed1 a.self.share.now c.requires.packed.0.0 c.requires.packed.0.1 a.out.now c.requires.room in
+    let fits = room a.self.e a.self.n a.self.string.now a.self.seed0 a.self.seed1 a.self.share.now c.args.self.packed.0 c.args.self.packed.1 a.out.now c.requires.room in
     let v = c.write_levels-path in
     let p = c.write_path in
     let all = rest_written a.out.now 0 (whole a.self.e a.self.n a.self.string.now a.self.seed0 a.self.seed1 a.self.share.now) fits _ _ (path a.self.e a.self.n a.self.string.now a.self.seed0 a.self.seed1 a.self.share.now)

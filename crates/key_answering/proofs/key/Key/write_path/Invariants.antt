@@ -1,7 +1,7 @@
 use Rattle.point.specs.PublicShare.{joined}
 use Rattle.fields.proofs.FieldChain.{Wrote}
 use Rattle.key_answering.specs.KeyParts.{pair_of}
-use Rattle.key_answering.proofs.page.Key.write_path.Given as goal
+use Rattle.key_answering.proofs.key.Key.write_path.Given as goal
 
 abbrev pub invariant-loop-k : goal.invariant-loop-k
 invariant-loop-k l =

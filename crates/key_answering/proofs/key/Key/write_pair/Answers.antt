@@ -12,8 +12,8 @@ use Rattle.point.specs.Evaluation.{bit_of}
 use Rattle.key_answering.specs.KeyPage.{prefix_word, beside_word, shares_line_at}
 use Rattle.fields.proofs.FieldChain.{Wrote, rest_room, rest_written}
 use Rattle.key_answering.proofs.Sides.{own_bit}
-use Rattle.key_answering.proofs.page.Key.write_pair.Goals as goal
-use Rattle.key_answering.proofs.page.Key.write_pair.Goals.{After-bit_at-own, After-write_side-here}
+use Rattle.key_answering.proofs.key.Key.write_pair.Goals as goal
+use Rattle.key_answering.proofs.key.Key.write_pair.Goals.{After-bit_at-own, After-write_side-here}
 
 -- the two lines
 abbrev first : (e : Expander) (n : ℕ) (string seed0 seed1 share : List ℕ) (k : ℕ) → List ℕ
@@ -24,7 +24,7 @@ second e n string seed0 seed1 share k = let x = unpack n string in shares_line_a
 
 -- the string's own bit
 own : (b : After-bit_at-own) → let a = b.args in b.bit_at-own.result ≡ bit_of (unpack a.self.n a.self.string.now) a.k
-own b = let a = b.args in b.bit_at-own.ensures ∙ own_bit a.self.n a.k a.self.string.now b.requires.packed.1
+own b = let a = b.args in b.bit_at-own.ensures ∙ own_bit a.self.n a.k a.self.string.now b.requires.level
 
 pub write_side-here-requires : goal.write_side-here-requires
 write_side-here-requires c =
@@ -32,7 +32,7 @@ write_side-here-requires c =
     let x = first a.self.e a.self.n a.self.string.now a.self.seed0 a.self.seed1 a.self.share.now a.k in
     let y = second a.self.e a.self.n a.self.string.now a.self.seed0 a.self.seed1 a.self.share.now a.k in
     record {
-      packed = c.requires.packed;
+      level = c.requires.level;
       room = rw (own (goal.at.write_side-here-requires c).After-bit_at-own) (grown_room a.out.now a.at a.out.now a.at x y (x ++ y) (grown_start a.out.now a.at (x ++ y)) c.requires.room);
     }
 
@@ -56,7 +56,7 @@ write_side-requires c =
     let y = second a.self.e a.self.n a.self.string.now a.self.seed0 a.self.seed1 a.self.share.now a.k in
     let is = own (goal.at.write_side-requires c).After-bit_at-own in
     record {
-      packed = c.requires.packed;
+      level = c.requires.level;
       room = rw is (rest_room a.out.now a.at (x ++ y) c.requires.room _ _ y (half (goal.at.write_side-requires c).After-write_side-here is));
     }
 

@@ -6,7 +6,7 @@ use mathlib.Core.List.{List}
 use Rattle.point.specs.PublicShare.{read_correction}
 use Rattle.key_answering.specs.KeyPage.{level_line}
 use Rattle.key_answering.proofs.Joined.{none_written, next_room, next_written}
-use Rattle.key_answering.proofs.page.Key.write_levels.Goals as goal
+use Rattle.key_answering.proofs.key.Key.write_levels.Goals as goal
 
 -- the line of a level
 abbrev line : List ℕ → ℕ → ℕ → List ℕ
