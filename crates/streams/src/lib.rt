@@ -52,7 +52,6 @@ impl From<Cut> for Failure {
 
 // Reads until the input ends, the space is full or a read fails. Where it is known which bytes the reader has left, what is read are the first
 // of them, and all of them that have room where no read fails.
-// It is a `while`: a read may give less than there is room for, so each tells where the next begins.
 pub fn read_text<R: Read>(reader: &mut R, text: &mut [u8]) -> Result<usize, Cut>
     ensures prefix { IsPrefixLen (read_in result) text.new }
     ensures bytes { Consumes (R.remaining reader.old) (R.remaining reader.new) (take (read_in result) text.new) }
