@@ -4,15 +4,15 @@ use native.Mathlib.Omega.{arith}
 use mathlib.Core.Path.{◌≡◌, sym, ap, subst, ◌∙◌}
 use mathlib.Core.Bool.{Bool}
 use mathlib.Core.List.{List, [], map}
-use Rattle.std.specs.Prelude.{Ok, Err, Some}
+use Rattle.std.specs.Prelude.{Result, Ok, Err, Some, IfOk}
 use lib.ListN.{length, replicate, length-map, length-replicate}
 use Rattle.places.specs.Places.{overlay}
 use Rattle.places.proofs.Places.{overlay_nil, overlay_length}
 use Rattle.calls.specs.Causes.{number_due}
 use Rattle.calls.specs.Outcome.{Outcome}
-use Rattle.calls.specs.Refusals.{number_of}
+use Rattle.calls.specs.Refusals.{number_of, number_in}
 use Rattle.calls.specs.declared.Refusal.{Refusal}
-use Rattle.calls.proofs.Judged.{number_clear}
+use Rattle.calls.proofs.Judged.{number_clear, numbered}
 use Rattle.expander.specs.Expander.{choice_of}
 use Rattle.expander.specs.declared.Expander.{Expander}
 use Rattle.query.specs.Query.{prefix_count, prefixes_of}
@@ -104,3 +104,16 @@ module _ (n e : ℕ) (b : Bool) (shares last query : List ℕ) (l : List Node) (
         let named : Some call_ready.expander ≡ Some t.expander = sym call_ready.chosen ∙ chosen in
         let same : call_ready.expander ≡ t.expander = cc in
         subst Folds (ap (λ (x : Expander). task_under x n b shares last query) same ∙ sym made) task_folds
+
+  -- ---- either way
+
+  -- what all turns leave of what a call begins with, its task or a refusal
+  abbrev pub AllTurns : Result Task Refusal → Type 0
+  AllTurns (Ok t) = kept_answered (Ok (8 * t.after)) (sums_at t shares last query (first_place t last query) l (cleared t area) (first_place t last query).left)
+      (map node_of (nodes_at t shares last query (first_place t last query) l (first_place t last query).left)) ≡ kept_exit call
+  AllTurns (Err refusal) = kept_answered (Err refusal) area (map node_of l) ≡ kept_exit call
+
+  pub share_folded : (begun : Result Task Refusal) → number_in begun ≡ number
+      → IfOk begun (λ t. (choice_of e ≡ Some t.expander) × (t ≡ task_under t.expander n b shares last query)) → AllTurns begun
+  share_folded (Ok t) found made = (folds (sym found) t made.0 made.1).folded
+  share_folded (Err refusal) found made = refused_exit refusal found (λ z. numbered refusal (found ∙ z))
