@@ -36,6 +36,7 @@ fn put_child(prefix: &[u8], whole: usize, rest: usize, bit: bool, out: &mut [u8]
 }
 
 // The child of all bits of `prefix`, packed, from place `at` on.
+// It stays beside `put_child`: there the last byte is one of the prefix, and here it is none.
 fn put_child_of_all(prefix: &[u8], bit: bool, out: &mut [u8], at: usize)
     ensures { out.new ≡ put_at out.old at (pack (bits_of prefix.now ▹ bit)) }
 {

@@ -13,7 +13,7 @@ use places::byte_at;
 pub fn packed_length(n: usize) -> usize
     ensures { result ≡ packed_length n }
 {
-    n / 8 + (n % 8 + 7) / 8
+    n.div_ceil(8)
 }
 
 // Bit i of the bytes, first bit highest; 0 past the end.

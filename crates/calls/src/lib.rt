@@ -108,6 +108,7 @@ pub fn length_outside(n: u64) -> bool
 }
 
 // Whether the threshold t of a search that is weighted or not is outside its bounds.
+// `weighted` stays a flag, here and in all that is handed it: C lends it, and `threshold_most` is defined by it.
 pub fn threshold_outside(weighted: bool, t: u64) -> bool
     ensures { result ≡ outside (threshold_most weighted) t }
 {

@@ -9,6 +9,7 @@ ghost use Rattle.combine.specs.Combine.{lent_causes};
 use calls::Refusal;
 
 // Whether the shares have the wrong length, where `passes` tells whether the query passes 9.
+// `passes` stays a flag: a query that does not pass is judged after the shares.
 fn wrong_shares(passes: bool, query: &[u8], share0: &[u8], share1: &[u8]) -> bool
     ensures { result ≡ (unmatched share0.now share1.now
         || (passes && not (eqb (length share0.now) (8 * prefix_count query.now)))) }

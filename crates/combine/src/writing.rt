@@ -38,8 +38,8 @@ fn write_one(
 }
 
 impl Round<'_> {
-    // The place stays beside the space, as where one prefix is written.
     // Writes the kept prefixes of the query where `last`, and else both children of each, from place `at` of `out` on.
+    // The place is handed on to `write_one` and moves on with each prefix.
     pub(crate) fn write_kept(self, last: bool, out: &mut [u8], at: usize)
         requires query_in_bounds { 6 + prefix_count self.query.now * packed_length (prefix_length self.query.now) ≤ length self.query.now }
         requires query_bytes { (j : ℕ) → get_or self.query.now j 0 < 256 }

@@ -44,6 +44,7 @@ impl fmt::Display for UnknownExpander {
 impl Error for UnknownExpander {}
 
 // Whether a number names an expander.
+// It lists the numbers again: it is asked where no expander is wanted.
 pub fn is_expander(number: u64) -> bool
     ensures { result ≡ is_expander number }
 {

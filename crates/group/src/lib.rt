@@ -7,6 +7,7 @@ ghost use Rattle.group.specs.Modular.{p, field};
 pub const P: u64 = 18446744069414584321;
 
 // The remainder of a word by p.
+// That a result is below p stays in the clauses, here and below: C and the servers lend any word, so results are words, too.
 pub fn reduce(x: u64) -> u64
     ensures { (result ≡ x % p) × (result < p) }
 {

@@ -1,4 +1,4 @@
-// All levels of a search, and the zeroing of an area.
+// All levels of a search, from the number of reports and the first query on.
 ghost use Rattle.std.specs.Prelude.{◌≡◌, ◌+◌, ◌/◌, length};
 ghost use Rattle.places.specs.Places.{put_at};
 ghost use Rattle.kept.specs.Kept.{reaches_by};

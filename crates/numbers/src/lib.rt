@@ -1,4 +1,5 @@
 // Numbers as bytes at a place of a slice. What does not lie within the slice is read as zeros and not written at all.
+// Each width is one line over `read` or `copy`: the library converts by width, and one function for all would need a trait for that line.
 // The place stays beside the bytes: the promises hold for every place, also one behind the end, from which no slice can be taken.
 #![tactic(auto)]
 

@@ -53,6 +53,7 @@ fn same_bits(a: &[u8], b: &[u8], k: usize) -> bool
 }
 
 // The first place from `from` on, below m, at which the first k bits of `child` stand in the last query.
+// It and `down_from` stay two: so are the definitions, and each is one line.
 fn up_from(last: &[u8], m: usize, child: &[u8], k: usize, from: usize) -> Option<usize>
     ensures { MatchOption result (m ≤ up_from (is_parent last.now child.now k) from (m - from)) (λ a. (a < m) × (up_from (is_parent last.now child.now k) from (m - from) ≡ a)) }
 {

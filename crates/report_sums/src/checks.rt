@@ -6,6 +6,7 @@ ghost use Rattle.report_sums.specs.Checks.{wrong_lengths, payload_too_large, spa
 use nodes::public_share_length;
 
 // Whether all payload corrections of these public shares are below p.
+// It and `all_spare_bits_zero` differ in the test alone: a function that is lent the test would have to say in its clause what that promises.
 pub fn all_payloads_below(n: u16, reports: usize, shares: &[u8]) -> bool
     ensures { result ≡ not (payload_too_large n (min reports (length shares.now / public_share_length n)) shares.now) }
 {

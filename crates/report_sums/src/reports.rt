@@ -20,6 +20,7 @@ pub struct Server<'a> {
 }
 
 // How many reports are lent with so many seeds: as many as have their seed and their public share in full.
+// That no length divides by zero stands in `share_count` of `node_lists`, too: that one is published, and this is none of its callers.
 fn report_count(n: u16, seed_count: usize, shares: &[u8]) -> usize
     ensures { result ≡ min seed_count (length shares.now / public_share_length n) }
 {
@@ -68,6 +69,7 @@ impl Server<'_> {
     }
 
     // The server's sums over the lent reports that count, at the first k bits of two packed prefixes.
+    // The marks stay bytes: the definition `counts` is over bytes.
     pub fn sums(self, marks: &[u8], first: &[u8], second: &[u8], k: u16) -> (u64, u64)
         ensures first_value { result.0
             ≡ server_sum self.entry.expander self.entry.n self.entry.server self.entry.seeds.now self.entry.public_shares.now (counts marks.now) (bit_of (bits_of first.now)) k }

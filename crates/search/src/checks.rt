@@ -33,6 +33,7 @@ impl Reports<'_> {
     }
 
     // Whether a payload correction lent for either server is p or more.
+    // It and `spare_bits_set` differ in the test alone, as the two functions of `report_sums` do.
     fn payload_too_large(self) -> bool
         ensures { result ≡ (payload_too_large self.entry.n (report_count self.entry.n self.entry.seeds0.now self.entry.shares0.now) self.entry.shares0.now
             || payload_too_large self.entry.n (report_count self.entry.n self.entry.seeds1.now self.entry.shares1.now) self.entry.shares1.now) }

@@ -15,6 +15,7 @@ use calls::Refusal;
 use numbers::{read_le8, write_le8};
 
 // Whether the lengths of two shares differ or are no multiple of 8.
+// The two shares stay beside each other, here and below: C lends them one by one.
 pub fn unmatched(share0: &[u8], share1: &[u8]) -> bool
     ensures { result ≡ unmatched share0.now share1.now }
 {

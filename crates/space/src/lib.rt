@@ -64,6 +64,7 @@ fn most_kept(n: u64, weighted: bool, t: u64, reports: u64) -> Option<u64>
 }
 
 // Space that is enough for the record of a search over this many honest reports; 0 where an argument is outside its bounds.
+// 0 stays a number where an argument is outside its bounds, here and below: C reads it so.
 pub fn record_space(n: u64, weighted: bool, t: u64, reports: u64) -> u64
     ensures { result ≡ named_record_space n weighted t reports }
 {

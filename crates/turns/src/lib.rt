@@ -40,6 +40,7 @@ pub struct Place {
 }
 
 // No turn to take, with so many left.
+// No `None`, and `due` stays a flag: `place_for` and `turned_node` of the definitions are made so.
 fn nowhere(left: usize) -> Place
     ensures { result ≡ nowhere left }
 {

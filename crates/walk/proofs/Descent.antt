@@ -1,6 +1,6 @@
 -- A step of a server's walk, in the form that the code has.
 use mathlib.Core.Path.{◌≡◌, refl, ap, ◌∙◌}
-use mathlib.Core.Bool.{Bool, true, false, cond}
+use mathlib.Core.Bool.{Bool, cond}
 use mathlib.Core.List.{List}
 use Prim.Native.Nat.{ℕ, suc, ◌-◌, ◌<◌}
 use native.Mathlib.Omega.{arith}
@@ -18,13 +18,6 @@ pub same_correction : {s s' : List ℕ} {l l' r r' : Bool} {v v' : ℕ} → s �
     → ◌≡◌ {A = Correction ℕ} (record { seed = s; left = l; right = r; payload = v }) (record { seed = s'; left = l'; right = r'; payload = v' })
 same_correction e f g h = λ i. record { seed = e i; left = f i; right = g i; payload = h i }
 
--- the arm that a test takes
-chosen : (b : Bool) (x y : ℕ) → b ≡ true → x ≡ cond b x y
-chosen b x y h = rw h
-
-passed : (b : Bool) (x y : ℕ) → b ≡ false → y ≡ cond b x y
-passed b x y h = rw h
-
 module _ (e : Expander) where
   -- the node below, from its corrected child and block 2 of that
   pub descend_block : (c : Correction ℕ) (x : Bool) (n m : Node) {s : List ℕ} → m ≡ corrected_child (scheme e) c x n → s ≡ block_of e m.seed 2
@@ -34,26 +27,18 @@ module _ (e : Expander) where
 
   -- the payload, corrected and not
   module _ (v : ℕ) (m : Node) {w : ℕ} (h : w ≡ payload_of (scheme e) m) where
-    pub payload_on : {r : ℕ} → m.bit ≡ true → r ≡ field.add w v → r ≡ corrected_payload (scheme e) v m
+    pub payload_corrected : {r : ℕ} → r ≡ cond m.bit (field.add w v) w → r ≡ corrected_payload (scheme e) v m
     unfolding corrected_payload field_scheme
-    payload_on t f = f ∙ ap (λ (y : ℕ). field.add y v) h ∙ chosen m.bit _ _ t
+    payload_corrected f = f ∙ ap (λ (y : ℕ). cond m.bit (field.add y v) y) h
 
-    pub payload_off : m.bit ≡ false → w ≡ corrected_payload (scheme e) v m
-    unfolding corrected_payload
-    payload_off t = h ∙ passed m.bit _ _ t
-
-  -- the share below, negated and not
+  -- the share below, from the corrected payload
   module _ (c : Correction ℕ) (x : Bool) (n m : Node) {v : ℕ} (g : m ≡ corrected_child (scheme e) c x n) (h : v ≡ corrected_payload (scheme e) c.payload m) where
     corrected_value : v ≡ corrected_payload (scheme e) c.payload (corrected_child (scheme e) c x n)
     corrected_value = h ∙ ap (corrected_payload (scheme e) c.payload) g
 
-    pub below_negated : (b : Bool) {r : ℕ} → b ≡ true → r ≡ field.neg v → r ≡ share_below (scheme e) b c x n
+    pub below : (b : Bool) {r : ℕ} → r ≡ cond b (field.neg v) v → r ≡ share_below (scheme e) b c x n
     unfolding share_below field_scheme
-    below_negated b t f = f ∙ rw (t, corrected_value)
-
-    pub below_plain : (b : Bool) → b ≡ false → v ≡ share_below (scheme e) b c x n
-    unfolding share_below
-    below_plain b t = rw t corrected_value
+    below b f = f ∙ ap (λ (y : ℕ). cond b (field.neg y) y) corrected_value
 
   -- the share below, from the drawn payload of the corrected child
   pub below_share : (c : Correction ℕ) (x : Bool) (n m : Node) {w v r : ℕ} (b : Bool) → m ≡ corrected_child (scheme e) c x n → w ≡ payload_of (scheme e) m

@@ -63,6 +63,7 @@ impl<'a> ShareReader<'a> {
 }
 
 // The correction word of level k, of n, and the level after it, by a reader made at level k.
+// The level behind it stays beside the word: two must-fail edits are of it.
 pub(crate) fn read_level(bytes: &[u8], n: u16, k: u16) -> (Correction, u16)
     requires { k < 65535 }
     ensures { (correction_of result.0 ≡ read_correction n bytes.now k) × (result.1 ≡ k + 1) }
