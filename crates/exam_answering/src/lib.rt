@@ -41,9 +41,7 @@ pub fn respond(text: &[u8], out: &mut [u8]) -> Result<u64, Refusal>
 {
     match answer(text, out) {
         Ok(length) => Ok(length),
-        Err(refusal) => match refusal {
-            Refusal::NoSpace => Err(refusal),
-            _ => refused_line(refusal.number(), out),
-        },
+        Err(Refusal::NoSpace) => Err(Refusal::NoSpace),
+        Err(refusal) => refused_line(refusal.number(), out),
     }
 }

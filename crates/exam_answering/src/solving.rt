@@ -20,7 +20,6 @@ use exam_lines::write_text;
 use exam_reading::SheetHead;
 use exam_reports::make_reports;
 use nodes::public_share_length;
-use search::Found;
 
 // Prints the queries and totals of the record, and the list, of a search that is accepted; both servers are lent the same public shares.
 // The spaces are lent one by one, here and in `print_answer`: a struct of six borrowed arrays would be made once and taken apart at once.
@@ -46,11 +45,23 @@ fn search_printed(
         seeds1.now shares.now area.old list.old))) out.old }
 {
     let SheetHead { n, t, expander, .. } = sheet;
-    let found = Found::from(search::search(
-        n as u64, false, t, expander, seeds0, shares, seeds1, shares, area, list,
-    ));
-    let record_end = found.record_length as usize;
-    let list_end = found.list_length as usize;
+    // A search that is accepted is not refused.
+    let Ok(found) = search::search(
+        u64::from(n),
+        false,
+        t,
+        expander,
+        seeds0,
+        shares,
+        seeds1,
+        shares,
+        area,
+        list,
+    ) else {
+        return 0;
+    };
+    let record_end = found.record as usize;
+    let list_end = found.list as usize;
     print(n, &area[..record_end], &list[..list_end], out)
 }
 
