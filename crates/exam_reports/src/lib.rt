@@ -17,14 +17,8 @@ fn fit(n: u16, count: u16, room0: usize, room1: usize, room: usize) -> bool
     requires { (n ≤ 32) × (count ≤ 32) }
     ensures { result ≡ (leb (16 * count) room0 && (leb (16 * count) room1 && leb (public_share_length n * count) room)) }
 {
-    let seeds = 16 * (count as usize);
-    if room0 < seeds {
-        return false;
-    }
-    if room1 < seeds {
-        return false;
-    }
-    public_share_length(n) * (count as usize) <= room
+    let seeds = 16 * usize::from(count);
+    seeds <= room0 && seeds <= room1 && public_share_length(n) * usize::from(count) <= room
 }
 
 // Makes the reports of the sheet that a text is, with the sheet's own expander and root seeds, and tells whether it did: it writes nothing where the text
@@ -36,7 +30,7 @@ pub fn make_reports(text: &[u8], seeds0: &mut [u8], seeds1: &mut [u8], shares: &
     let Some(sheet) = read_sheet(text) else {
         return false;
     };
-    if sheet.n < 1 {
+    if sheet.n == 0 {
         return false;
     }
     if !expander::is_expander(sheet.expander) {

@@ -29,8 +29,9 @@ fn write_key(
         seed1.now (public_share_length n)).written }
 {
     let end = at + public_share_length(n);
+    // What is lent is within the bounds of the call, so it is not refused.
     let _ = keymaker::make_key(
-        n as u64,
+        u64::from(n),
         expander,
         1,
         string,

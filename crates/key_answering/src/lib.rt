@@ -1,15 +1,18 @@
 // What the program `key` prints for its line.
 #![tactic(auto)]
 
-ghost use Rattle.std.specs.Prelude.{◌≡◌, true, ◌≤◌, length, Some};
+ghost use Rattle.std.specs.Prelude.{◌≡◌, true, ◌≤◌, length, IfOk, Some};
 ghost use Rattle.places.specs.Places.{overlay};
 ghost use Rattle.bits.specs.Packing.{pack};
+ghost use Rattle.calls.specs.Causes.{number_due};
 ghost use Rattle.calls.specs.Outcome.{exit, answered};
+ghost use Rattle.calls.specs.Refusals.{number_in};
 ghost use Rattle.expander.specs.Expander.{choice_of};
 ghost use Rattle.exam_text.specs.Reader.{has_line, line_at};
+ghost use Rattle.exam_text.specs.KeyLine.{is_key_line, KeyLineSays};
 ghost use Rattle.exam_lines.specs.Lines.{written_in};
 ghost use Rattle.key_answering.specs.KeyPage.{page, page_space};
-ghost use Rattle.key_answering.specs.KeyAnswer.{line_page, respond_outcome};
+ghost use Rattle.key_answering.specs.KeyAnswer.{key_line_causes, line_page, respond_outcome};
 
 use crate::key::Key;
 use bits::packed_length;
@@ -67,18 +70,27 @@ fn print(text: &[u8], head: KeyHead, e: Expander, out: &mut [u8]) -> Result<u64,
     write_text(&printed[..end], out)
 }
 
+// What the line of a key says, and its expander; refuses with 10, 1 or 3.
+fn judge(text: &[u8]) -> Result<(KeyHead, Expander), Refusal>
+    ensures number { number_in result ≡ number_due (key_line_causes text.now) }
+    ensures said { IfOk result (λ r. (is_key_line text.now ≡ true) × KeyLineSays text.now r.0.n r.0.expander r.0.place × (1 ≤ r.0.n) × (choice_of r.0.expander ≡ Some r.1)) }
+{
+    let Some(head) = read_key_line(text) else {
+        return Err(Refusal::Text);
+    };
+    if head.n == 0 {
+        return Err(Refusal::StringLength);
+    }
+    let e = Expander::try_from(head.expander)?;
+    Ok((head, e))
+}
+
 // Writes the whole output for a text: the page of its line, or the line of the refusal; refuses with 11 where it does not fit.
 pub fn respond(text: &[u8], out: &mut [u8]) -> Result<u64, Refusal>
     ensures { answered result out.new ≡ exit (respond_outcome text.now (length out.old)) out.old }
 {
-    let Some(head) = read_key_line(text) else {
-        return refused_line(Refusal::Text.number(), out);
-    };
-    if head.n < 1 {
-        return refused_line(Refusal::StringLength.number(), out);
-    }
-    match Expander::try_from(head.expander) {
-        Ok(e) => print(text, head, e, out),
-        Err(_) => refused_line(Refusal::Expander.number(), out),
+    match judge(text) {
+        Ok((head, e)) => print(text, head, e, out),
+        Err(refusal) => refused_line(refusal.number(), out),
     }
 }

@@ -9,7 +9,6 @@ ghost use Rattle.key_answering.specs.KeyPage.{control_line, correction_text, lev
 
 use fields::{write_hex, write_number, write_string, write_word};
 use nodes::Correction;
-use numbers::write_le8;
 use walk::read_correction;
 
 // What stands between two fields of a line.
@@ -40,11 +39,8 @@ fn write_correction(word: Correction, out: &mut [u8], at: usize) -> usize
     ensures value { result ≡ at + length (correction_text (correction_of word)) }
     ensures out_after { out.new ≡ put_at out.old at (correction_text (correction_of word)) }
 {
-    let seed = word.seed;
-    let mut payload = [0u8; 8];
-    write_le8(&mut payload, 0, word.payload);
-    let here = write_hex(&seed, SPACE, out, at);
-    write_hex(&payload, NEWLINE, out, here)
+    let here = write_hex(&word.seed, SPACE, out, at);
+    write_hex(&word.payload.to_le_bytes(), NEWLINE, out, here)
 }
 
 // Writes the line of level k, of n, of a public share.
@@ -55,7 +51,7 @@ pub(crate) fn write_level(share: &[u8], n: u16, k: u16, out: &mut [u8], at: usiz
 {
     let word = read_correction(share, n, k);
     let mut here = write_word(&LEVEL, SPACE, out, at);
-    here = write_number(k as u64 + 1, SPACE, out, here);
+    here = write_number(u64::from(k) + 1, SPACE, out, here);
     here = write_number(u64::from(word.left), SPACE, out, here);
     here = write_number(u64::from(word.right), SPACE, out, here);
     write_correction(word, out, here)

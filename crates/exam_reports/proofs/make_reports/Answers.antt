@@ -16,7 +16,7 @@ use Rattle.exam_text.proofs.ReaderExact.{sheet_within}
 use Rattle.exam_text.proofs.Placed as placed
 use Rattle.exam_reports.proofs.SheetMaking.{no_sheet_lem, no_bits, no_expander, no_room_lem, all_made}
 use Rattle.exam_reports.proofs.make_reports.Goals as goal
-use Rattle.exam_reports.proofs.make_reports.Goals.{Else-sheet-lt1, Else-not-fit, Else-not-is_expander, In-Some}
+use Rattle.exam_reports.proofs.make_reports.Goals.{Else-sheet-eq0, Else-not-fit, Else-not-is_expander, In-Some}
 
 abbrev text : In-Some → List ℕ
 text e = e.args.text.now
@@ -30,10 +30,10 @@ says e = e.in-Some.ensures.says
 within : (e : In-Some) → Within (sheet_of (text e))
 within e = (sheet_within (text e) (read e)).0
 
-from : (e : Else-sheet-lt1) → 1 ≤ (sheet_of (e.args.text.now)).n
+from : (e : Else-sheet-eq0) → 1 ≤ (sheet_of (e.args.text.now)).n
 from e =
     let s = e.in-Some.ensures.says in
-    omega (arith, s.n_read)
+    omega (arith, s.n_read, e.if-sheet-eq0.false)
 
 known : (e : Else-not-is_expander) → is_expander (expander_number (sheet_of (e.args.text.now)).expander) ≡ true
 known e =
@@ -62,12 +62,12 @@ returns-in_default c =
     let a = c.args in
     no_sheet_lem a.text.now a.seeds0.now a.seeds1.now a.shares.now (sym c.in_default.ensures.sheet)
 
-pub returns-then-sheet-lt1 : goal.returns-then-sheet-lt1
-returns-then-sheet-lt1 c = no_bits (text (goal.at.returns-then-sheet-lt1 c).In-Some) _ _ _ (read (goal.at.returns-then-sheet-lt1 c).In-Some) (omega (arith, (says (goal.at.returns-then-sheet-lt1 c).In-Some).n_read))
+pub returns-then-sheet-eq0 : goal.returns-then-sheet-eq0
+returns-then-sheet-eq0 c = no_bits (text (goal.at.returns-then-sheet-eq0 c).In-Some) _ _ _ (read (goal.at.returns-then-sheet-eq0 c).In-Some) (omega (arith, (says (goal.at.returns-then-sheet-eq0 c).In-Some).n_read, c.if-sheet-eq0.true))
 
 pub returns-then-not-is_expander : goal.returns-then-not-is_expander
 returns-then-not-is_expander c =
-    no_expander (text (goal.at.returns-then-not-is_expander c).In-Some) _ _ _ (read (goal.at.returns-then-not-is_expander c).In-Some) (from (goal.at.returns-then-not-is_expander c).Else-sheet-lt1) (ap is_expander (sym (says (goal.at.returns-then-not-is_expander c).In-Some).expander_read) ∙ sym c.is_expander.ensures ∙ c.if-not-is_expander.true)
+    no_expander (text (goal.at.returns-then-not-is_expander c).In-Some) _ _ _ (read (goal.at.returns-then-not-is_expander c).In-Some) (from (goal.at.returns-then-not-is_expander c).Else-sheet-eq0) (ap is_expander (sym (says (goal.at.returns-then-not-is_expander c).In-Some).expander_read) ∙ sym c.is_expander.ensures ∙ c.if-not-is_expander.true)
 
 pub fit-requires : goal.fit-requires
 fit-requires c =
@@ -75,13 +75,13 @@ fit-requires c =
 
 pub returns-then-not-fit : goal.returns-then-not-fit
 returns-then-not-fit c =
-    no_room_lem (text (goal.at.returns-then-not-fit c).In-Some) _ _ _ (read (goal.at.returns-then-not-fit c).In-Some) (from (goal.at.returns-then-not-fit c).Else-sheet-lt1) (known (goal.at.returns-then-not-fit c).Else-not-is_expander) _ _ (says (goal.at.returns-then-not-fit c).In-Some).n_read (says (goal.at.returns-then-not-fit c).In-Some).count_is_read (sym c.fit.ensures ∙ c.if-not-fit.true)
+    no_room_lem (text (goal.at.returns-then-not-fit c).In-Some) _ _ _ (read (goal.at.returns-then-not-fit c).In-Some) (from (goal.at.returns-then-not-fit c).Else-sheet-eq0) (known (goal.at.returns-then-not-fit c).Else-not-is_expander) _ _ (says (goal.at.returns-then-not-fit c).In-Some).n_read (says (goal.at.returns-then-not-fit c).In-Some).count_is_read (sym c.fit.ensures ∙ c.if-not-fit.true)
 
 pub write_reports-requires : goal.write_reports-requires
 write_reports-requires c =
     let s = says (goal.at.write_reports-requires c).In-Some in record {
       le_n = (
-        c.if-sheet-lt1.false,
+        omega (arith, c.if-sheet-eq0.false),
         omega (arith, s.n_read, (within (goal.at.write_reports-requires c).In-Some).n_most),
         sym c.is_expander.ensures ∙ c.if-not-is_expander.false,
         placed.sheet_laid (text (goal.at.write_reports-requires c).In-Some) _ _ c.in-Some.sheet.lines s.n_read s.count_is_read s.lines_placed (read (goal.at.write_reports-requires c).In-Some),
@@ -93,5 +93,5 @@ pub returns : goal.returns
 returns c =
     let s = says (goal.at.returns c).In-Some in
     let r = c.in-Some.sheet in
-    all_made (text (goal.at.returns c).In-Some) _ _ _ (read (goal.at.returns c).In-Some) (from (goal.at.returns c).Else-sheet-lt1) (known (goal.at.returns c).Else-not-is_expander) r.n r.count s.n_read s.count_is_read (sym c.fit.ensures ∙ passed (goal.at.returns c).Else-not-fit) r.expander r.lines s.expander_read
+    all_made (text (goal.at.returns c).In-Some) _ _ _ (read (goal.at.returns c).In-Some) (from (goal.at.returns c).Else-sheet-eq0) (known (goal.at.returns c).Else-not-is_expander) r.n r.count s.n_read s.count_is_read (sym c.fit.ensures ∙ passed (goal.at.returns c).Else-not-fit) r.expander r.lines s.expander_read
     (placed.sheet_lines (text (goal.at.returns c).In-Some) r.n r.count r.lines s.n_read s.count_is_read s.lines_placed) _ _ _ c.write_reports.ensures.seeds0_after c.write_reports.ensures.seeds1_after c.write_reports.ensures.shares_after

@@ -19,4 +19,4 @@ returns c =
     let a = c.args in
     part_put a.shares.now a.at (public_share_length a.n) c.public_share_length.result
     (λ room. (key_outcome a.n a.expander (pos 1) a.string.now a.seed0.now a.seed1.now room).written)
-    c.make_key.new.out c.public_share_length.ensures c.requires.0 c.requires.1 (area_left _ _ ∙ ap (λ (x : Exit). x.area) c.make_key.ensures)
+    c.make_key.new.out c.public_share_length.ensures c.requires.0 c.requires.1 (area_left _ _ ∙ ap (λ (x : Exit). x.area) (rw c.from.ensures at c.make_key.ensures))
