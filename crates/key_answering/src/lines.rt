@@ -9,6 +9,7 @@ ghost use Rattle.key_answering.specs.KeyPage.{control_line, correction_text, lev
 
 use fields::{write_hex, write_number, write_string, write_word};
 use nodes::Correction;
+use numbers::write_le8;
 use walk::read_correction;
 
 // What stands between two fields of a line.
@@ -39,8 +40,11 @@ fn write_correction(word: Correction, out: &mut [u8], at: usize) -> usize
     ensures value { result ≡ at + length (correction_text (correction_of word)) }
     ensures out_after { out.new ≡ put_at out.old at (correction_text (correction_of word)) }
 {
-    let here = write_hex(&word.seed, SPACE, out, at);
-    write_hex(&word.payload.to_le_bytes(), NEWLINE, out, here)
+    let seed = word.seed;
+    let mut payload = [0u8; 8];
+    write_le8(&mut payload, 0, word.payload);
+    let here = write_hex(&seed, SPACE, out, at);
+    write_hex(&payload, NEWLINE, out, here)
 }
 
 // Writes the line of level k, of n, of a public share.

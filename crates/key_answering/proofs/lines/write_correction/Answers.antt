@@ -1,8 +1,9 @@
 -- `key_answering::lines::write_correction` meets its contract.
 use mathlib.Core.Path.{◌≡◌, ◌∙◌}
-use Rattle.places.proofs.Places.{grown_start}
+use lib.ListN.{replicate}
+use Rattle.places.proofs.Places.{grown_start, put_at_whole}
 use Rattle.numbers.specs.Numbers.{little}
-use Rattle.numbers.proofs.Library.{le_8_bytes}
+use Rattle.numbers.proofs.Endian.{little_length}
 use Rattle.nodes.specs.NodeLayout.{correction_of}
 use Rattle.exam_text.specs.Characters.{hexadecimal}
 use Rattle.key_answering.specs.KeyPage.{spaced, closed, correction_text}
@@ -17,7 +18,7 @@ returns c =
     let h = c.write_hex in
     let x = a.word.payload in
     -- the eight bytes of the payload
-    let payload : c.to_le_bytes.result ≡ little 8 x = c.to_le_bytes.ensures ∙ le_8_bytes x in
+    let payload : c.write_le8.new.out ≡ little 8 x = c.write_le8.ensures ∙ put_at_whole (replicate 8 0) (little 8 x) (little_length 8 x) in
     let whole = correction_text (correction_of a.word) in
     let bytes = closed (hexadecimal (little 8 x)) in
     let first = grown_field a.out.now a.at whole c.requires _ _ (spaced (hexadecimal a.word.seed)) bytes (grown_start a.out.now a.at whole) _ _ (w.ensures.place, w.ensures.space) in
