@@ -1,6 +1,6 @@
 -- Demand 1 holds of every call.
 use Rattle.expander.specs.declared.Expander.{Expander}
-use Rattle.std.specs.Prelude.{Option, Some, None}
+use Rattle.std.specs.Prelude.{Option as Maybe, Some, None}
 use Prim.Native.Nat.{ℕ, ◌≤◌, ◌<◌}
 use native.Mathlib.Omega.{arith}
 use mathlib.Core.Path.{◌≡◌, refl, ap, ◌∙◌}
@@ -73,7 +73,7 @@ untouched out h = (h, ap (λ (bytes : List ℕ). overlay bytes out) h ∙ overla
 at_most : (e : ℕ) (seed : List ℕ) (j : ℕ) → length (under (choice_of e) (λ x. block_of x seed j)) ≤ 16
 at_most e seed j = go (choice_of e)
   where
-    go : (c : Option Expander) → length (under c (λ x. block_of x seed j)) ≤ 16
+    go : (c : Maybe Expander) → length (under c (λ x. block_of x seed j)) ≤ 16
     go (Some x) = omega (arith, block_length x seed j)
     go None = omega arith
 
