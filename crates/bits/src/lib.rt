@@ -49,7 +49,9 @@ pub fn spare_zero(s: &[u8], n: usize) -> bool
 pub fn before(a: &[u8], b: &[u8]) -> bool
     ensures { result ≡ bytes_before a.now b.now }
 {
-    for (x, y) in a.iter().zip(b) {
+    for i in 0..a.len().min(b.len()) {
+        let x = a[i];
+        let y = b[i];
         if x < y {
             return true;
         }

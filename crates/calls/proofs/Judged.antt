@@ -15,9 +15,10 @@ use Rattle.expander.specs.Expander.{is_expander}
 use Rattle.expander.proofs.Chosen.{unnamed, unnamed_test}
 use Rattle.calls.specs.Bounds.{most_bits, threshold_most, threshold_number, most_reports, outside, length_cause, threshold_cause, expander_cause, reports_cause, space_cause}
 use Rattle.calls.specs.Causes.{Cause, cause, number_due, Due}
-use Rattle.calls.specs.Outcome.{refused, accepted, judged, exit, answered}
+use Rattle.calls.specs.Outcome.{refused, accepted, judged, Exit, exit, answered, left}
 use Rattle.calls.specs.Refusals.{number_of}
 use Rattle.calls.specs.declared.Refusal.{Refusal}
+use Rattle.calls.specs.declared.Reply.{Reply}
 use Rattle.calls.specs.declared.Refusal.TheVariants.{StringLength, Threshold, Expander, Lengths, TooManyReports, PayloadTooLarge, SpareBits, SharesDiffer, Query, Text, NoSpace, WeightedThreshold, Nodes, NoParent}
 use Rattle.calls.proofs.Decisions.{beyond, beyond_test}
 
@@ -172,10 +173,14 @@ refused_with cs refusal h (Err e) p bytes entry =
     let nothing = judged_refused cs bytes (λ z. numbered e (number ∙ z)) in
     rw (number, nothing, overlay_nil entry) refl
 
+-- what a call returns and leaves, part by part
+pub exit_equal : {r : Reply} {area : List ℕ} {e : Exit} → r.number ≡ e.number → r.length ≡ e.length → area ≡ e.area → left r area ≡ e
+exit_equal h k l = rw (h, k, l)
+
 -- a success, part by part
 pub accepted_with : (bytes entry : List ℕ) {size : ℕ} {area : List ℕ} → size ≡ length bytes → area ≡ overlay bytes entry
     → answered (Ok size) area ≡ exit (accepted bytes) entry
-accepted_with bytes entry h k = rw (h, k)
+accepted_with bytes entry {size = size} h k = exit_equal {r = record { number = 0; length = size }} refl h k
 
 -- facts of the elements of a list, one by one
 infixr 40 ◌&◌

@@ -18,7 +18,7 @@ pub struct Rule {
 fn at_least(z: i64, t: u64) -> bool
     ensures { result ≡ le_z (pos t) z }
 {
-    u64::try_from(z).is_ok_and(|z| t <= z)
+    0 <= z && t <= z.unsigned_abs()
 }
 
 // Whether a prefix with this total is kept.

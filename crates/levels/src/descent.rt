@@ -58,17 +58,17 @@ impl Search<'_> {
     // The search from its query for `count` prefixes of k bits on, which stand from place `from` on: their totals, and then the list, the end, or the
     // next query and the search from there.
     pub(crate) fn descend(
-        self,
+        &self,
         area: &mut [u8],
         list: &mut [u8],
         k: u16,
         count: usize,
         from: usize,
     ) -> Result<Lengths, Refusal>
-        requires k_le_n { (k ≤ self.last + 1) × (from + count * packed_length k + 8 * count ≤ length area.old) × (count % 2 ≡ 0) }
+        requires k_le_n { (k ≤ self.now.last + 1) × (from + count * packed_length k + 8 * count ≤ length area.old) × (count % 2 ≡ 0) }
         requires packed { Packed k (parts (packed_length k) count (drop from area.old)) }
-        ensures { AnsweredBelow (reaches_by self.entry.rule) (total_in self.entry)
-            (self.entry.last + 1 - k) k (strings_at k count from area.old) (from + count * packed_length k) area.old list.old area.new
+        ensures { AnsweredBelow (reaches_by self.now.rule) (total_in self.now)
+            (self.now.last + 1 - k) k (strings_at k count from area.old) (from + count * packed_length k) area.old list.old area.new
             list.new (number_in result) (record_in result) (list_in result) }
     {
         let place = from + count * packed_length(k as usize);

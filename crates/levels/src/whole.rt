@@ -37,8 +37,8 @@ fn write_first(area: &mut [u8], at: usize)
 
 impl Search<'_> {
     // The levels of a search: the number of reports and the first query, where they and its two totals fit, and the levels from it down.
-    pub(crate) fn all_levels(self, area: &mut [u8], list: &mut [u8]) -> Result<Lengths, Refusal>
-        ensures { AnsweredAll (reaches_by self.entry.rule) (total_in self.entry) (length self.entry.seeds0.now / 16) (self.entry.last + 1)
+    pub(crate) fn all_levels(&self, area: &mut [u8], list: &mut [u8]) -> Result<Lengths, Refusal>
+        ensures { AnsweredAll (reaches_by self.now.rule) (total_in self.now) (length self.now.seeds0.now / 16) (self.now.last + 1)
             area.old list.old area.new list.new (number_in result) (record_in result) (list_in result) }
     {
         if area.len() < HEADING_LENGTH + FIRST_LEVEL {

@@ -1,8 +1,8 @@
 -- Laws of numbers as bytes: a number is read back from its bytes, and bytes from their number.
 use mathlib.Core.Path.{◌≡◌, refl, sym, ap, ◌∙◌}
 use Prim.Native.Nat.{ℕ, zero, suc, ◌+◌, ◌*◌, ◌/◌, ◌%◌, ◌^◌, ◌≤◌, ◌<◌}
-use native.Mathlib.Nat.{mod-eq_of_lt, mul-add-div_right, mul-add-mod_self_right, div-eq_of_lt, div-div-eq-div-mul}
-use native.Mathlib.Nat.{zero-add, add-zero, suc-add, mul_assoc, mul_comm, mul-le-mul_right, one-le-pow, pow-succ'}
+use native.Mathlib.Nat.{mod-eq_of_lt, mul-add-div_right, mul-add-mod_self_right, div-eq_of_lt, div-one, div-div-eq-div-mul}
+use native.Mathlib.Nat.{zero-add, add-zero, suc-add, add-mul, mul_assoc, mul_comm, mul-le-mul_right, one-le-pow, pow-succ'}
 use native.Mathlib.Omega.{arith}
 use mathlib.Core.List.{List, [], ◌∷◌, ◌++◌}
 use lib.ListN.{length, get_or, length-append}
@@ -43,6 +43,17 @@ little_from_little (suc n) (b ∷ s) w =
 
 pub little_injective : (n x y : ℕ) → x < 256 ^ n → y < 256 ^ n → little n x ≡ little n y → x ≡ y
 little_injective n x y h k e = sym (from_little_little n x h) ∙ ap from_little e ∙ from_little_little n y k
+
+pub from_little_append : (s t : List ℕ) → from_little (s ++ t) ≡ from_little s + 256 ^ length s * from_little t
+unfolding from_little
+from_little_append [] t = omega arith
+from_little_append (b ∷ s) t = rw (from_little_append s t, pow-succ' 256 (length s), mul_assoc 256 (256 ^ length s) (from_little t)) (omega arith)
+
+pub little_append : (m n x : ℕ) → little (m + n) x ≡ little m x ++ little n (x / 256 ^ m)
+unfolding little
+little_append zero n x = rw (zero-add n, div-one x)
+little_append (suc m) n x =
+    rw (suc-add m n, pow-succ' 256 m, ← div-div-eq-div-mul x 256 (256 ^ m)) (ap (λ (l : List ℕ). x % 256 ∷ l) (little_append m n (x / 256)))
 
 -- 8 bytes for each number
 pub in_bytes_length : (xs : List ℕ) → length (in_bytes xs) ≡ 8 * length xs
@@ -97,6 +108,13 @@ big_from_big (suc n) (b ∷ s) w =
     let f : from_big s < 256 ^ n = from_big_below n s (bytes_tail w) in
     rw (e, mul-add-div_right (power_pos n) b (from_big s), div-eq_of_lt f, add-zero b, mod-eq_of_lt (bytes_head w), big_cut n b (from_big s))
     (ap (λ (l : List ℕ). b ∷ l) (big_from_big n s (bytes_tail w)))
+
+pub from_big_append : (s t : List ℕ) → from_big (s ++ t) ≡ from_big s * 256 ^ length t + from_big t
+unfolding from_big
+from_big_append [] t = omega arith
+from_big_append (b ∷ s) t =
+    rw (length-append s t, pow-add 256 (length s) (length t), from_big_append s t, add-mul (b * 256 ^ length s) (from_big s) (256 ^ length t), mul_assoc b (256 ^ length s) (256 ^ length t))
+    (omega arith)
 
 pub big_append : (m n x : ℕ) → big (m + n) x ≡ big m (x / 256 ^ n) ++ big n x
 unfolding big

@@ -5,16 +5,14 @@ use native.Mathlib.Numerals.{add-one}
 use mathlib.Core.Path.{◌≡◌, refl, sym, ◌∙◌}
 use mathlib.Core.Bool.{Bool, true, false, cond}
 use mathlib.Core.List.{List, [], ◌∷◌}
-use Rattle.std.proofs.Math.Bool.{and_comm}
 use Rattle.std.specs.Prelude.{Option, None, Some, MatchOption}
 use Rattle.std.specs.Option.{option_map}
 use Rattle.std.specs.Iterator.{AlwaysYields}
 use Rattle.std.specs.Iterator.Adapters.{rev_source, rev_steps}
-use Rattle.std.specs.List.{find, list_all, range_with_len}
+use Rattle.std.specs.List.{find, range_with_len}
 use Rattle.std.specs.declared.ops.Range.{Range}
 use Rattle.std.specs.declared.iter.Rev.{Rev}
 use Rattle.std.proofs.lemmas.Iterator.{YieldsList}
-use Rattle.point.specs.PublicShare.{every}
 use Rattle.parents.specs.Lookup.{up_from, down_from, looked_up}
 use Rattle.parents.proofs.Looking.{up_least, looked_near_up, looked_far_up, looked_near_down, looked_far_down}
 
@@ -36,12 +34,6 @@ range_down (suc n) s e f = (
 
 pub down_yields : {s : Rev (Range ℕ)} (n : ℕ) → (rev_source s).start ≡ 0 → (rev_source s).end ≡ n → YieldsList (rev_steps taken_back) (λ x. x) s (downwards n)
 down_yields {s} n e f = record { runs = range_down n s e f }
-
--- whether all pass
-pub all_down : (f : ℕ → Bool) (n : ℕ) → list_all f (downwards n) ≡ every n f
-unfolding every
-all_down f zero = refl
-all_down f (suc n) = rw (all_down f n) (and_comm (f n) (every n f))
 
 module _ (f : ℕ → Bool) where
   first_up : (n a : ℕ) → MatchOption (find f (range_with_len a n)) (a + n ≤ up_from f a n) (λ i. (i < a + n) × (up_from f a n ≡ i))

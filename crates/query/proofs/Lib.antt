@@ -1,7 +1,6 @@
 pub mod Children
 pub mod Queries
 pub mod Parts
-pub mod Chunks
 pub mod Place
 pub mod Check
 pub mod Ready

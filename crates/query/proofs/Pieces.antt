@@ -41,6 +41,9 @@ module _ (w from : ℕ) (d : List ℕ) where
     pub part_length : length (take w (drop from d)) ≡ w
     part_length = let h : w ≤ length (drop from d) = rw (length-drop from d) (omega arith) in length-take-le w (drop from d) h
 
+    pub part_size : length (part w from d) ≡ w
+    part_size = rw part_inside part_length
+
   -- what was asked for between the two places, of which the second stays at the greatest number where it would pass it
   pub part_got : (end most : ℕ) → end ≡ min (from + w) most → length d < most → (r : Option (Bor (List ℕ)))
       → MatchOption r ((end < from) ⊎ (length d < end)) (λ x. (from ≤ end) × (end ≤ length d) × (x.now ≡ slice_range d from end) × (length x.now + from ≡ end))

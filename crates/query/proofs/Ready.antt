@@ -9,11 +9,12 @@ use borrow.Author.Tests.{leb-true, eqb-true}
 use lib.ListN.{length, get_or, take, drop}
 use lib.Dec.{leb, eqb}
 use Rattle.bits.specs.Packing.{packed_length, unpack}
-use Rattle.places.proofs.Places.{window_inside, window_length}
+use Rattle.places.proofs.Places.{window_inside}
 use Rattle.query.specs.Query.{limit, prefix_length, prefix_count, packed_prefixes, prefixes_of, spares_zero, is_ascending, is_query}
 use Rattle.places.proofs.Lists.{and_left, and_right}
 use Rattle.query.proofs.Queries.{prefix_at_lem}
 use Rattle.query.specs.Prefix.{packed_prefix}
+use Rattle.query.proofs.Pieces.{part_size}
 use Rattle.query.proofs.Place.{prefix_inside}
 
 -- what follows of bytes that pass as a query for strings of n bits
@@ -77,7 +78,7 @@ module _ (n : ℕ) (q : List ℕ) (i : ℕ) (e : is_query n q ≡ true) (h : i <
 
   -- it is as many bytes as its bits take
   pub prefix_size : length (packed_prefix q i) ≡ w
-  prefix_size = ap length (prefix_part ∙ sym (window_inside w (6 + i * w) q prefix_room)) ∙ window_length w (6 + i * w) q
+  prefix_size = part_size w (6 + i * w) q prefix_room
 
   -- its bits are entry i of the prefixes
   pub prefix_unpack : unpack len (packed_prefix q i) ≡ get_or (prefixes_of q) i []

@@ -79,8 +79,8 @@ pub fn record_space(n: u64, weighted: bool, t: u64, reports: u64) -> u64
 pub fn list_space(n: u64, weighted: bool, t: u64, reports: u64) -> u64
     ensures { result ≡ named_list_space n weighted t reports }
 {
-    let Some(most) = most_kept(n, weighted, t, reports) else {
+    let Some(strings) = most_kept(n, weighted, t, reports) else {
         return 0;
     };
-    most * (packed_length(n as usize) as u64)
+    strings * (packed_length(n as usize) as u64)
 }

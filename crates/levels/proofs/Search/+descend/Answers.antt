@@ -10,7 +10,7 @@ use Rattle.levels.proofs.Search.+descend.Goals.{After-write_totals-kept}
 
 -- the totals of the level are written
 totalled : (t : ℕ) (c : After-write_totals-kept t) → let a = c.args in
-    Totalled a.self a.k a.count a.from a.area.now (a.from + a.count * c.packed_length.result) c.write_totals-kept.new.area c.write_totals-kept.result
+    Totalled a.self.now a.k a.count a.from a.area.now (a.from + a.count * c.packed_length.result) c.write_totals-kept.new.area c.write_totals-kept.result
 totalled t c = record {
   room_lem = c.requires.k_le_n.1;
   at = ap (λ (x : ℕ). c.args.from + c.args.count * x) c.packed_length.ensures;

@@ -3,4 +3,4 @@ use Prim.Native.Nat.{◌+◌, ◌-◌}
 use Rattle.levels.proofs.Search.+descend.Given as goal
 
 abbrev pub decreases-descend : goal.decreases-descend
-decreases-descend l = l.self.last + 1 - l.k
+decreases-descend l = l.self.now.last + 1 - l.k

@@ -13,22 +13,22 @@ use Rattle.levels.proofs.Search.write_totals.Goals as goal
 use Rattle.levels.proofs.Search.write_totals.Goals.{In-loop-i}
 
 abbrev total : In-loop-i → Bits → ℕ
-total l = total_in l.args.self
+total l = total_in l.args.self.now
 
 abbrev kept : In-loop-i → Bits → Bool
-kept l = is_kept (reaches_by l.args.self.rule) (total l)
+kept l = is_kept (reaches_by l.args.self.now.rule) (total l)
 
 pub loop-i-init : goal.loop-i-init
 loop-i-init c =
     let a = c.args in
     let v = a.level in
     let w = c.packed_length-w.result in
-    let T = total_in a.self in
+    let T = total_in a.self.now in
     let all : v.count - 2 * 0 ≡ v.count = omega arith in
     let first : v.from + 2 * 0 * w ≡ v.from = omega (arith, zero-mul w) in
     let place : v.place + 16 * 0 ≡ v.place = omega arith in
     rw (all, first, place)
-    (standing_start T (is_kept (reaches_by a.self.rule) T) v.k w a.area.now v.count v.from v.place c.packed_length-w.ensures c.requires.1 c.requires.0 c.requires.2)
+    (standing_start T (is_kept (reaches_by a.self.now.rule) T) v.k w a.area.now v.count v.from v.place c.packed_length-w.ensures c.requires.1 c.requires.0 c.requires.2)
 
 pub overflow_add-kept : goal.overflow_add-kept
 overflow_add-kept c =
@@ -56,6 +56,6 @@ pub returns : goal.returns
 returns c =
     let a = c.args in
     let v = a.level in
-    let T = total_in a.self in
-    let both = standing_end T (is_kept (reaches_by a.self.rule) T) v.k c.packed_length-w.result a.area.now v.count v.from v.place c.loop-i.invariant (omega arith) in
+    let T = total_in a.self.now in
+    let both = standing_end T (is_kept (reaches_by a.self.now.rule) T) v.k c.packed_length-w.result a.area.now v.count v.from v.place c.loop-i.invariant (omega arith) in
     record { area_after = both.0; value = both.1 }
