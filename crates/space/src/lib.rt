@@ -1,7 +1,7 @@
 // How much space is enough for the record and the list of a search over honest reports.
 #![tactic(auto)]
 
-ghost use Rattle.std.specs.Prelude.{◌≡◌, true, false, ◌-◌, ◌≤◌, ◌<◌};
+ghost use Rattle.std.specs.Prelude.{◌≡◌, ◌-◌, ◌≤◌, ◌<◌};
 ghost use Rattle.tree.specs.Space.{level_length, space_from, fewest_holders};
 ghost use Rattle.space.specs.SearchSpace.{outside_bounds, named_record_space, named_list_space};
 
