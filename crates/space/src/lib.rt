@@ -1,7 +1,7 @@
 // How much space is enough for the record and the list of a search over honest reports.
 #![tactic(auto)]
 
-ghost use Rattle.std.specs.Prelude.{◌≡◌, true, false, ◌-◌, ◌/◌, ◌≤◌, ◌<◌, MatchOption};
+ghost use Rattle.std.specs.Prelude.{◌≡◌, ◌-◌, ◌≤◌, ◌<◌};
 ghost use Rattle.tree.specs.Space.{level_length, space_from, fewest_holders};
 ghost use Rattle.space.specs.SearchSpace.{outside_bounds, named_record_space, named_list_space};
 
@@ -53,24 +53,15 @@ fn levels_length(n: usize, most: usize) -> usize
     space
 }
 
-// How many strings can be kept of each length at most, over this many honest reports; none where an argument is outside its bounds.
-fn most_kept(n: u64, weighted: bool, t: u64, reports: u64) -> Option<u64>
-    ensures { MatchOption result (outside_bounds n weighted t reports ≡ true) (λ most. (outside_bounds n weighted t reports ≡ false) × (most ≡ reports / fewest_holders weighted t) × (1 ≤ n) × (n ≤ 256) × (most ≤ 65535)) }
-{
-    if outside_bounds(n, weighted, t, reports) {
-        return None;
-    }
-    Some(reports / fewest_holders(weighted, t))
-}
-
 // Space that is enough for the record of a search over this many honest reports; 0 where an argument is outside its bounds.
 // 0 stays a number where an argument is outside its bounds, here and below: C reads it so.
 pub fn record_space(n: u64, weighted: bool, t: u64, reports: u64) -> u64
     ensures { result ≡ named_record_space n weighted t reports }
 {
-    let Some(most) = most_kept(n, weighted, t, reports) else {
+    if outside_bounds(n, weighted, t, reports) {
         return 0;
-    };
+    }
+    let most = reports / fewest_holders(weighted, t);
     let first = HEADING_LENGTH + level_length(0, 2);
     (first + levels_length(n as usize, most as usize)) as u64
 }
@@ -79,8 +70,9 @@ pub fn record_space(n: u64, weighted: bool, t: u64, reports: u64) -> u64
 pub fn list_space(n: u64, weighted: bool, t: u64, reports: u64) -> u64
     ensures { result ≡ named_list_space n weighted t reports }
 {
-    let Some(strings) = most_kept(n, weighted, t, reports) else {
+    if outside_bounds(n, weighted, t, reports) {
         return 0;
-    };
+    }
+    let strings = reports / fewest_holders(weighted, t);
     strings * (packed_length(n as usize) as u64)
 }
