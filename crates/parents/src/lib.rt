@@ -36,7 +36,7 @@ pub fn is_last(n: u64, last: &[u8]) -> bool
 }
 
 // Whether the first w bytes agree, from the last of them on. No `==` of slices: a byte past the end counts as 0, and neighbours in a query differ in
-// their last bytes. No chain over a range turned round: in a search for parents it takes up to three times as many instructions.
+// their last bytes. No chain over a range turned round: with it a search for parents was measured at up to 1.4 times as long.
 fn same_bytes(a: &[u8], b: &[u8], w: usize) -> bool
     ensures { result ≡ every w (λ i. eqb (get_or a.now i 0) (get_or b.now i 0)) }
 {

@@ -21,18 +21,6 @@ pub fn write_fields(out: &mut [u8], at: usize, k: u64, count: u64)
     numbers::write_be4(out, at + 2, count);
 }
 
-// Writes the bytes into the places of `out` from `at` on, if they fit; and the place after what is written.
-fn write_fitting(bytes: &[u8], out: &mut [u8], at: usize) -> usize
-    ensures out_after { out.new ≡ put_at out.old at bytes.now }
-    ensures value { result ≡ at + length (fitting out.old at bytes.now) }
-{
-    if !within(out.len(), at, bytes.len()) {
-        return at;
-    }
-    copy(bytes, out, at);
-    at + bytes.len()
-}
-
 // Writes the packed prefix in the w bytes of `source` from place `from` on into the places of `out` from `at` on, if it is kept; and the place after
 // what is written.
 // `kept` stays a flag, here and in `write_both_children`: their promises are made by it, for both of its values.
@@ -52,7 +40,11 @@ pub fn write_prefix(
     }
     let end = from.saturating_add(w);
     let prefix = source.get(from..end).unwrap_or(&[]);
-    write_fitting(prefix, out, at)
+    if !within(out.len(), at, prefix.len()) {
+        return at;
+    }
+    copy(prefix, out, at);
+    at + prefix.len()
 }
 
 // How many bytes a child takes of the prefix that the first len bits of `prefix` are.
@@ -81,7 +73,6 @@ pub fn write_both_children(
     if !within(out.len(), at, size) {
         return at;
     }
-    // No slice holds the children before they are written, so they do not go through `write_fitting`.
     let second = at + size;
     if !within(out.len(), second, size) {
         return at;
