@@ -13,8 +13,8 @@ fn reply(text: &[u8], out: &mut [u8]) -> usize
     requires { answer_space ≤ length out.old }
     ensures { IsPrefixLen result out.new × (take result out.new ≡ output text.now) }
 {
-    let answer = exam_answering::respond(text, out);
-    answer.unwrap_or(0) as usize
+    let length = exam_answering::respond(text, out).unwrap_or(0);
+    length as usize
 }
 
 // What it answers to a text.

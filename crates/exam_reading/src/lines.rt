@@ -1,5 +1,5 @@
 // The lines behind the first one: whether they are laid out as strings and seeds.
-ghost use Rattle.std.specs.Prelude.{◌≡◌, ◌*◌, ◌≤◌, length};
+ghost use Rattle.std.specs.Prelude.{◌≡◌, ◌&&◌, ◌*◌, ◌≤◌, eqb, get_or, length, take};
 ghost use Rattle.exam_text.specs.Reader.{is_hex, are_bits, are_hex, line_length, is_line, are_lines, has_line};
 
 // Whether each character is `0` or `1`.
@@ -31,6 +31,14 @@ pub(crate) fn line_length(n: usize) -> usize
     n + 67
 }
 
+// Whether a part of a line is the 32 digits of a seed and the character `then` behind them.
+fn seed_then(part: &[u8], then: u8) -> bool
+    requires { length part.now ≡ 33 }
+    ensures { result ≡ (are_hex (take 32 part.now) && eqb (get_or part.now 32 0) then) }
+{
+    are_hex(&part[..32]) && part[32] == then
+}
+
 // Whether a line is laid out for strings of n bits.
 fn is_line(line: &[u8], n: usize) -> bool
     requires { length line.now ≡ line_length n }
@@ -38,10 +46,8 @@ fn is_line(line: &[u8], n: usize) -> bool
 {
     are_bits(&line[..n])
         && line[n] == b' '
-        && are_hex(&line[n + 1..n + 33])
-        && line[n + 33] == b' '
-        && are_hex(&line[n + 34..n + 66])
-        && line[n + 66] == b'\n'
+        && seed_then(&line[n + 1..n + 34], b' ')
+        && seed_then(&line[n + 34..n + 67], b'\n')
 }
 
 // Whether a text is `count` lines for strings of n bits and nothing after them.

@@ -15,8 +15,8 @@ fn reply(text: &[u8], out: &mut [u8]) -> usize
     requires { page_space ≤ length out.old }
     ensures { IsPrefixLen result out.new × (take result out.new ≡ key_output text.now) }
 {
-    let answer = key_answering::respond(text, out);
-    answer.unwrap_or(0) as usize
+    let length = key_answering::respond(text, out).unwrap_or(0);
+    length as usize
 }
 
 // What it answers to a text.

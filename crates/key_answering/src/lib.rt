@@ -81,7 +81,9 @@ fn judge(text: &[u8]) -> Result<(KeyHead, Expander), Refusal>
     if head.n == 0 {
         return Err(Refusal::StringLength);
     }
-    let e = Expander::try_from(head.expander)?;
+    let Ok(e) = Expander::try_from(head.expander) else {
+        return Err(Refusal::Expander);
+    };
     Ok((head, e))
 }
 

@@ -12,8 +12,8 @@ pub returns : goal.returns
 unfolding overlay
 returns c =
     let a = c.args in
-    let is = c.respond-answer.ensures ∙ ap (λ (o : Outcome). exit o a.out.now) (respond_enough a.text.now _ c.requires) in
-    let size = c.unwrap_or.ensures ∙ length_left c.respond-answer.result c.respond-answer.new.out ∙ ap (λ (x : Exit). x.length) is in
-    let area = area_left c.respond-answer.result c.respond-answer.new.out ∙ ap (λ (x : Exit). x.area) is in
+    let is = c.respond.ensures ∙ ap (λ (o : Outcome). exit o a.out.now) (respond_enough a.text.now _ c.requires) in
+    let size = c.unwrap_or-length.ensures ∙ length_left c.respond.result c.respond.new.out ∙ ap (λ (x : Exit). x.length) is in
+    let area = area_left c.respond.result c.respond.new.out ∙ ap (λ (x : Exit). x.area) is in
     let fits = inside _ (output a.text.now) a.out.now _ size area in
     ((fits, sym (length-take-le _ _ fits)), ap₂ take size area ∙ take-append_seam (output a.text.now) _)

@@ -1,12 +1,8 @@
 -- `key_answering::judge` meets its contract: each test is that of its cause, in their order.
 use Prim.Native.Nat.{◌≤◌}
 use native.Mathlib.Omega.{arith}
-use mathlib.Core.Path.{◌≡◌, sym, ap, ◌∙◌}
+use mathlib.Core.Path.{◌≡◌, sym}
 use mathlib.Core.Bool.{true}
-use Rattle.std.specs.Prelude.{Result, Ok, Err, IsErrAnd}
-use Rattle.calls.specs.Refusals.{number_of, number_in}
-use Rattle.calls.specs.declared.Refusal.{Refusal}
-use Rattle.calls.specs.declared.Refusal.TheVariants.{Expander}
 use Rattle.exam_text.specs.KeyLine.{KeyLineSays, is_key_line, key_line_of}
 use Rattle.key_answering.proofs.Responding.{none_due, no_bits_due, unknown_due, known_due}
 use Rattle.key_answering.proofs.judge.Goals as goal
@@ -38,23 +34,17 @@ returns-then-head-eq0-clause-number c =
     let told = says g in
     sym (no_bits_due c.args.text.now (is_line_lem g) (omega (arith, told.n_read, c.if-head-eq0.true)))
 
--- what the test of the expander refuses with is its number
-handed : {A : Type 0} (r : Result A Refusal) → IsErrAnd r (λ e. e ≡ Expander) → number_in r ≡ 3
-handed (Ok x) h = absurd h
-handed (Err e) h = ap number_of h
-
-pub returns-in_err-e-clause-number : goal.returns-in_err-e-clause-number
-returns-in_err-e-clause-number c =
-    let g = goal.at.returns-in_err-e-clause-number c in
+pub returns-in_default-try_from-clause-number : goal.returns-in_default-try_from-clause-number
+returns-in_default-try_from-clause-number c =
+    let g = goal.at.returns-in_default-try_from-clause-number c in
     let told = says g.In-Some in
-    handed _ c.from_residual.ensures.1
-    ∙ sym (unknown_due c.args.text.now (is_line_lem g.In-Some) (from g.Else-head-eq0) (few g.Else-head-eq0) (rw told.expander_read at c.in_err-e.ensures))
+    sym (unknown_due c.args.text.now (is_line_lem g.In-Some) (from g.Else-head-eq0) (few g.Else-head-eq0) (rw told.expander_read at c.in_default-try_from.ensures))
 
 pub returns : goal.returns
 returns c =
     let g = goal.at.returns c in
     let told = says g.In-Some in
     record {
-      number = sym (known_due c.args.text.now (is_line_lem g.In-Some) (from g.Else-head-eq0) (few g.Else-head-eq0) _ (rw told.expander_read at c.in_ok-e.ensures));
-      said = (is_line_lem g.In-Some, told, some g.Else-head-eq0, c.in_ok-e.ensures);
+      number = sym (known_due c.args.text.now (is_line_lem g.In-Some) (from g.Else-head-eq0) (few g.Else-head-eq0) _ (rw told.expander_read at c.in-Ok.ensures));
+      said = (is_line_lem g.In-Some, told, some g.Else-head-eq0, c.in-Ok.ensures);
     }
