@@ -81,6 +81,7 @@ fn judge(text: &[u8]) -> Result<(KeyHead, Expander), Refusal>
     if head.n == 0 {
         return Err(Refusal::StringLength);
     }
+    // No `?`: each refusal is named beside its test.
     let Ok(e) = Expander::try_from(head.expander) else {
         return Err(Refusal::Expander);
     };
